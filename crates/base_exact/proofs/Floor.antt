@@ -8,14 +8,14 @@ use native.Mathlib.Omega.{arith}
 use native.Mathlib.Nat.{mul-pos}
 use lib.IntN.{ℤ, pos, negsuc, negℤ, natAbs, _+ℤ_, _-ℤ_, _*ℤ_}
 use lib.Signed.{_≤ℤ_, _<ℤ_, shrZ, ≤ℤ-refl}
-use Rattle.base_exact.specs.Rational.{ℚ, den, mk, _+ᵠ_, -ᵠ_, _-ᵠ_, int}
+use Rattle.base_exact.specs.Rational.{ℚ, den, int}
 use Rattle.base_exact.specs.Order.{_≤ᵠ_, _<ᵠ_}
 use Rattle.base_exact.specs.Floor.{floorDiv, nearest, floor}
 use Rattle.base_exact.proofs.Integer as Z
 use Rattle.base_exact.proofs.Integer.{ℤ-ring, readsℤ}
 use Rattle.base_exact.proofs.Ring.{ring, reads}
-use Rattle.base_exact.proofs.Rational.{_is_over_, self, is-int, mk-is, int-add, ℚ-ring, readsℚ}
-use Rattle.base_exact.proofs.Order.{is-le, is-lt, le-is, lt-is, ≤-refl, ≤-trans, ≤-<-trans, int-cancel-<, +-mono, +-mono-<, lt-by, lt-pos}
+use Rattle.base_exact.proofs.Rational.{_is_over_, self, is-int}
+use Rattle.base_exact.proofs.Order.{is-le, is-lt, le-is, lt-is, ≤-trans, ≤-<-trans, int-cancel-<, +-mono, +-mono-<}
 pub use Rattle.base_exact.proofs.Integer.{floorDiv-le, lt-floorDiv, le-floorDiv, floorDiv-lt, floorDiv-unique}
 
 -- ---- the floored quotient of integers
@@ -166,12 +166,6 @@ pub lt-floor : (q : ℚ) → q <ᵠ int (floor q +ℤ pos 1)
 unfolding floor
 lt-floor q = lt-int q (floorDiv (q .num) (den q) +ℤ pos 1) (lt-floorDiv (q .num) (den q) (omega arith))
 
--- rounding down loses less than one
-pub floor-gap : (q : ℚ) → q -ᵠ int (floor q) <ᵠ int (pos 1)
-floor-gap q =
-    lt-by (lt-pos (subst (λ t. q <ᵠ t) (int-add (floor q) (pos 1)) (lt-floor q)))
-    (ring ℚ-ring (q ∷ int (floor q) ∷ []) (search readsℚ) (search readsℚ) refl)
-
 -- ---- the bounds determine it
 pub le-floor : (z : ℤ) (q : ℚ) → int z ≤ᵠ q → z ≤ℤ floor q
 le-floor z q h = Z.<-suc-≤ z (floor q) (int-cancel-< z (floor q +ℤ pos 1) (≤-<-trans h (lt-floor q)))
@@ -190,16 +184,5 @@ pub floor-is : {q : ℚ} {a : ℤ} {b : ℕ} → q is a over b → floor q ≡ f
 floor-is {q} {a} {b} h = floorDiv-unique (floor q) a b (h .bpos)
     (rw (Z.*-one a) at (le-is (is-int (floor q)) h (floor-le q))) (rw (Z.*-one a) at (lt-is h (is-int (floor q +ℤ pos 1)) (lt-floor q)))
 
-pub floor-mk : (n : ℤ) (d : ℕ) (h : 0 < d) → floor (mk n d h) ≡ floorDiv n d
-floor-mk n d h = floor-is (mk-is n d h)
-
 pub floor-int : (z : ℤ) → floor (int z) ≡ z
 floor-int z = floor-is (is-int z) ∙ ap (λ t. floorDiv t 1) (sym (Z.*-one z)) ∙ floorDiv-exact z 1 (omega arith)
-
-pub floor-add : (q : ℚ) (z : ℤ) → floor (q +ᵠ int z) ≡ floor q +ℤ z
-floor-add q z = sym (floor-unique (floor q +ℤ z) (q +ᵠ int z)
-    (rw (int-add (floor q) z) (+-mono (floor-le q) (≤-refl (int z))))
-    (rw (alg (floor q) z, int-add (floor q +ℤ pos 1) z) (+-mono-< (lt-floor q) (≤-refl (int z)))))
-  where
-    alg : (f z : ℤ) → f +ℤ z +ℤ pos 1 ≡ f +ℤ pos 1 +ℤ z
-    alg f z = ring ℤ-ring (f ∷ z ∷ []) (search readsℤ) (search readsℤ) refl

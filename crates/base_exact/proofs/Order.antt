@@ -164,14 +164,6 @@ pub <-≢ : {x y : ℚ} → x <ᵠ y → x ≢ y
 pub ≤-≢-< : {x y : ℚ} → x ≤ᵠ y → x ≢ y → x <ᵠ y
 ≤-≢-< h n = not-≥-< (λ k. n (≤-antisym h k))
 
-pub <-trichotomy : (x y : ℚ) → (x <ᵠ y) ⊎ ((x ≡ y) ⊎ (y <ᵠ x))
-<-trichotomy x y = go (≤-or-> x y) (≤-or-> y x)
-  where
-    go : (x ≤ᵠ y) ⊎ (y <ᵠ x) → (y ≤ᵠ x) ⊎ (x <ᵠ y) → (x <ᵠ y) ⊎ ((x ≡ y) ⊎ (y <ᵠ x))
-    go (inr h) d = inr (inr h)
-    go (inl h) (inl k) = inr (inl (≤-antisym h k))
-    go (inl h) (inr k) = inl k
-
 pub is-lt : {p q : ℚ} {a c : ℤ} {b d : ℕ} → p is a over b → q is c over d → (a *ℤ pos d) <ℤ (c *ℤ pos b) → p <ᵠ q
 is-lt h k l = not-≥-< (λ m. clashℤ l (le-is k h m))
 
@@ -346,9 +338,6 @@ abs-neg q = is-unique (is-abs (is-neg q)) (is-abs (self q)) (ap (λ t. pos t *�
 
 pub abs-mul : (p q : ℚ) → absᵠ (p *ᵠ q) ≡ absᵠ p *ᵠ absᵠ q
 abs-mul p q = is-unique (is-abs (is-mul (self p) (self q))) (is-mul (is-abs (self p)) (is-abs (self q))) (ap (λ t. pos t *ℤ pos (den p * den q)) (Z.abs-mul (p .num) (q .num)))
-
-pub abs-int : (z : ℤ) → absᵠ (int z) ≡ int (pos (natAbs z))
-abs-int z = is-unique (is-abs (is-int z)) (is-int (pos (natAbs z))) refl
 
 -- it is the number or its negation, whichever is greater
 pub abs-cases : (q : ℚ) → (absᵠ q ≡ q) ⊎ (absᵠ q ≡ -ᵠ q)

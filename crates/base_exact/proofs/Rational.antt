@@ -3,7 +3,7 @@
 -- Then come the ring solver's instance, the inverse, the parts in lowest terms and decidable equality.
 use mathlib.Core.Path.{_≡_, refl, sym, _∙_, ap, ap₂, subst}
 use mathlib.Core.Logic.{_≢_, _⊎_, inl, inr}
-use mathlib.Core.HLevel.{isProp→PathP, hedberg}
+use mathlib.Core.HLevel.{isProp→PathP}
 use mathlib.Core.List.{List, [], _∷_}
 use Prim.Native.Nat.{ℕ, zero, suc, pred, _*_, _/_, _<_, _≤_}
 use native.Mathlib.Omega.{arith}
@@ -269,9 +269,6 @@ is-least {q} {a} {b} h = subst (λ (p : ℚ). (natAbs (p .num) ≤ natAbs a) × 
   omega (arith, mk-den a b (h .bpos), div-le-self b (gcd (natAbs a) b)),
 )
 
-pub mk-eq : (n m : ℤ) (d e : ℕ) (h : 0 < d) (k : 0 < e) → n *ℤ pos e ≡ m *ℤ pos d → mk n d h ≡ mk m e k
-mk-eq n m d e h k c = is-unique (mk-is n d h) (mk-is m e k) c
-
 pub int-num : (z : ℤ) → int z .num ≡ z
 unfolding int
 int-num z = mk-reduced z 1 (suc-pos 0) (gcd-one (natAbs z)) .0
@@ -325,10 +322,6 @@ mul-inv q h = go (q .num) refl
         (ap (λ t. t *ℤ pos (den q) *ℤ pos 1) e ∙ alg₁ (pos (suc a)) (pos (den q)))
     go (negsuc a) e = is-unique (is-mul (self q) (mk-is (negℤ (pos (den q))) (suc a) (suc-pos a))) (is-int (pos 1))
         (ap (λ t. t *ℤ negsuc (q .dm) *ℤ pos 1) e ∙ alg₁ (pos (suc a)) (pos (den q)))
-
-pub inv-zero : inv (int (pos 0)) ≡ int (pos 0)
-unfolding inv
-inv-zero = ap (λ z. invZ z (den (int (pos 0)))) (int-num (pos 0))
 
 pub mul-cancel : {a b c : ℚ} → c ≢ int (pos 0) → a *ᵠ c ≡ b *ᵠ c → a ≡ b
 mul-cancel {a} {b} {c} h e = by-eq ℚ-ring (inv c) e (by-eq ℚ-ring (b -ᵠ a) (mul-inv c h)

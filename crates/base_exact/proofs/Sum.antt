@@ -13,7 +13,7 @@ use Rattle.base_exact.specs.Order.{_≤ᵠ_, _<ᵠ_, Nn, absᵠ}
 use Rattle.base_exact.specs.Sum.{sum}
 use Rattle.base_exact.proofs.Ring.{Is, ring, reads}
 use Rattle.base_exact.proofs.Rational.{ℚ-ring, readsℚ, add-zero, zero-add, int-add}
-use Rattle.base_exact.proofs.Order.{nn-int, nn-add, ≤-refl, ≤-trans, <-≤, le-nn, le-by, lt-by, lt-pos, pos-add, +-mono, +-mono-<, abs-add, abs-of-nn}
+use Rattle.base_exact.proofs.Order.{nn-int, nn-add, ≤-refl, ≤-trans, le-nn, le-by, lt-by, lt-pos, pos-add, +-mono, +-mono-<, abs-add, abs-of-nn}
 
 pub sum-ext : (n : ℕ) {f g : ℕ → ℚ} → ((i : ℕ) → i < n → f i ≡ g i) → sum n f ≡ sum n g
 unfolding sum

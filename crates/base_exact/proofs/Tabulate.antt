@@ -11,7 +11,7 @@ use native.Mathlib.Decide.{ℕ-discrete}
 use native.Mathlib.Nat.{zero-add, suc-add}
 use lib.Dec.{T, eqb, eqb→eq, eqb-refl, eqb·suc-suc}
 use lib.ListN.{length, getD, take, drop, set, replicate, length-set, List·getD-append}
-use lib.Seq.{drop-cons, set-at, take-at, drop-at, set-append-left, length-front, length-take-le, getD-append-add, getD-drop, drop-append-add, drop-drop, getD-set-same, getD-set-other, ext-getD}
+use lib.Seq.{drop-cons, set-at, drop-at, length-front, length-take-le, getD-append-add, getD-drop, getD-set-same, getD-set-other, ext-getD}
 use Rattle.base_exact.specs.Tabulate.{tab, updated}
 
 module _ {A : Type 0} where

@@ -14,7 +14,7 @@ use lib.Signed.{mag, mag-shr, natAbs-le, quotZ, ltZ, leZ, nonNeg, _≤ℤ_, _<�
 use mir.Syntax.{Width, w32, w64}
 use mir.Val.{Fits, SFits, hbits, ofZ, toZ}
 use mir.ValLaws.{sfits-le, half-full}
-use Rattle.base_exact.specs.Rational.{signed, signed-abs}
+use Rattle.base_exact.specs.Rational.{signed}
 use Rattle.base_exact.specs.Floor.{floorDiv, nearest}
 use Rattle.base_exact.proofs.Decide.{true-holds, false-fails, holds-true, refuted-false}
 use Rattle.base_exact.proofs.Integer.{bal-+, bal-*, bal-neg, ext, <-out, ≤-or->}
@@ -120,9 +120,6 @@ signed-neg (negsuc n) m h = refl
 pub signed-pos : (z : ℤ) (m : ℕ) → pos 0 ≤ℤ z → signed z m ≡ pos m
 signed-pos (pos n) m h = refl
 signed-pos (negsuc n) m h = absurd (h .le)
-
-pub signed-fits : {w : Width} (z : ℤ) (m : ℕ) → m < 2 ^ hbits w → SFits w (signed z m)
-signed-fits z m h = sfits-abs (rw (signed-abs z m) h)
 
 -- ---- -1 - z turns one half of the integers over onto the other
 pub flip-neg : (n : ℕ) → negsuc 0 -ℤ negsuc n ≡ pos n

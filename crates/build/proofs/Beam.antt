@@ -67,6 +67,14 @@ sliced s a e l =
     ap₂ (λ m n. space (take m (drop a (s .breaks))) (take (e - a) (drop a (s .degrees))) (take n (drop a (s .orders))))
     (let z : e + 1 - a ≡ suc (e - a) = omega arith in z) (let z : e - 1 - a ≡ e - a - 1 = omega arith in z)
 
+-- where a part lies in the three lists
+pub record Lies (breaks degrees orders a e : ℕ) : Type 0 where
+  pub some : a < e
+  pub within : e ≤ degrees
+  pub break-count : breaks ≡ degrees + 1
+  pub order-count : orders + 1 ≡ degrees
+  pub few : degrees ≤ 48
+
 -- The parts before segment a are built.
 pub record Before (s : Space) (num₀ den₀ num den : List ℤ) (rows a : ℕ) : Type 0 where
   pub boundary : Boundary s a
@@ -107,6 +115,23 @@ module _ (b d o : List ℤ) (legal : ListsLegal b d o) where
     lists = checked-legal (p .breaks) (p .degrees) (p .orders) (parts-are-legal s (legal-checked b d o legal) a A);
     few = omega (arith, part-segments s a A, legal .part-counts a (A .below) (A .starts));
   }
+
+  module _ {a e : ℕ} (A : Starts s a) (ends : e ≡ partEnd s a) where
+    pub part-lies : Lies (length b) (length d) (length o) a e
+    part-lies = let p = part-ends s a (A .below) in record {
+      some = omega (arith, ends, p .above);
+      within = omega (arith, ends, p .boundary .within);
+      break-count = legal .break-count;
+      order-count = legal .order-count;
+      few = legal .few;
+    }
+
+    -- the slices are the part's lists
+    pub slices-are : space (take (e + 1 - a) (drop a b)) (take (e - a) (drop a d)) (take (e - 1 - a) (drop a o)) ≡ partAt s a
+    slices-are = sliced s a e (part-lies .some) ∙ ap (λ n. section s a (n - a)) ends
+
+    pub slices-legal : PartLegal (take (e + 1 - a) (drop a b)) (take (e - a) (drop a d)) (take (e - 1 - a) (drop a o))
+    slices-legal = subst (λ (p : Space). PartLegal (p .breaks) (p .degrees) (p .orders)) (sym slices-are) (part-legal a A)
 
   module _ {num₀ den₀ num den : List ℤ} {rows a : ℕ} (st : Before s num₀ den₀ num den rows a) where
     pub rows-high : rows ≤ 288

@@ -16,7 +16,6 @@ use Rattle.spec_spline.specs.Piecewise.{Accepted}
 use Rattle.spec_spline.specs.Reading.{Wood}
 use Rattle.spec_spline.specs.ExactCurve.{mostWeights}
 use Rattle.spec_spline.proofs.Legal.{legal}
-use Rattle.spec_calls.specs.Pieces.{Piece}
 use Rattle.theorems_values.proofs.Within.{halves}
 use Rattle.theorems_values.proofs.Mean.{Factors}
 use Rattle.theorems_values.proofs.Bernstein.{exactTriangle}

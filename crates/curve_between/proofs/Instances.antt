@@ -2,10 +2,8 @@
 -- curve is within s/2 = 1 of it.
 use mathlib.Core.Path.{_≡_, refl, subst}
 use lib.IntN.{pos}
-use Prim.Native.Nat.{ℕ}
-use native.Mathlib.Omega.{arith}
 use Rattle.base_exact.specs.Gcd.{gcd, gcdF}
-use Rattle.base_exact.specs.Rational.{ℚ, mk, int, inv, _+ᵠ_, _*ᵠ_, -ᵠ_, _//_}
+use Rattle.base_exact.specs.Rational.{mk, int, inv, _+ᵠ_, _*ᵠ_, -ᵠ_, _//_}
 use Rattle.base_exact.specs.Order.{_≤ᵠ_, leᵠ}
 use Rattle.base_exact.proofs.Order.{leᵠ-true}
 use Rattle.spec_spline.specs.Conditions.{binomial}

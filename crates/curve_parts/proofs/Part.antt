@@ -12,18 +12,16 @@ use Rattle.base_exact.specs.Tabulate.{tab}
 use Rattle.base_exact.proofs.Decide.{le-or-lt}
 use Rattle.base_exact.proofs.Tabulate.{tab-ext}
 use Rattle.base_outcome.specs.Outcome.{answer, refusal, with-answer}
-use Rattle.spec_spline.specs.Space.{Space, partEnd, checked, columnCount, rowCount}
-use Rattle.spec_spline.specs.Table.{Table, rowCells, tableCells, numerators, denominators}
+use Rattle.spec_spline.specs.Space.{Space, checked, columnCount, rowCount}
+use Rattle.spec_spline.specs.Table.{Table, rowCells, numerators, denominators}
 use Rattle.spec_spline.specs.Build.{weights, spaceWeights, lastPart, built, numeratorsAfter, denominatorsAfter, buildEnd}
 use Rattle.spec_spline.specs.Reading.{Wood, earlywood, latewood, coefficient, ordinate, ordinates}
 use Rattle.base_outcome.proofs.Outcome.{then-answers, answer-not-refusal}
-use Rattle.spec_spline.proofs.Parts.{part-ends}
 use Rattle.theorems_values.proofs.Weights.{weight-num-le-den}
-use Rattle.theorems_beams.specs.Sections.{section, partAt}
+use Rattle.theorems_beams.specs.Sections.{partAt}
 use Rattle.theorems_beams.proofs.PartLegal.{part-lastPart, parts-are-legal}
 use Rattle.theorems_beams.proofs.Reading.{ordinate-agree, coefficient-middle}
 use Rattle.build_space.specs.Machine.{space}
-use Rattle.build_space.specs.Legal.{ListsLegal}
 use Rattle.build_space.proofs.Legal.{legal-checked, legal-column-count-high, legal-row-count-sum, part-column-count-high}
 use Rattle.build_cells.specs.Held.{Holds}
 use Rattle.build_cells.proofs.Buffer.{holds-left}
@@ -33,7 +31,7 @@ use Rattle.base_outcome.specs.declared.Answer.the-variants.{Count, Refused}
 use Rattle.build.proofs.Building.{built-weights}
 use Rattle.build_step.proofs.Stepped.{Proper, weights-proper}
 use Rattle.base_outcome.proofs.Reply.{Counted, count-inverts, refused-inverts}
-use Rattle.build.proofs.Beam.{sliced, part-legal}
+use Rattle.build.proofs.Beam.{slices-are, part-legal}
 use Rattle.curve_ordinates.specs.Ordinates.{Weighs, Coefficients}
 use Rattle.curve_parts.specs.Parts.{lent, TableRoom, PartOf, PartsLeave}
 
@@ -85,12 +83,6 @@ module _ (s : Space) (a e : ℕ) (p : PartOf s a e) where
   abbrev part : Space
   part = partAt s a
 
-  pub part-after : a < e
-  part-after = omega (arith, p .ends, part-ends s a (p .starts .below) .above)
-
-  pub part-within : e ≤ length (s .degrees)
-  part-within = omega (arith, p .ends, part-ends s a (p .starts .below) .boundary .within)
-
   -- the beam has few rows
   pub beam-rows-few : rowCount s ≤ 288
   beam-rows-few = omega (arith, legal-row-count-sum _ _ _ (p .legal), legal-column-count-high _ _ _ (p .legal))
@@ -100,7 +92,7 @@ module _ (s : Space) (a e : ℕ) (p : PartOf s a e) where
   own-lists = space (take (e + 1 - a) (drop a (s .breaks))) (take (e - a) (drop a (s .degrees))) (take (e - 1 - a) (drop a (s .orders)))
 
   own-lists-are : own-lists ≡ part
-  own-lists-are = sliced s a e part-after ∙ ap (λ n. section s a (n - a)) (p .ends)
+  own-lists-are = slices-are _ _ _ (p .legal) (p .starts) (p .ends)
 
   part-checked : checked part ≡ answer part
   part-checked = parts-are-legal s (legal-checked _ _ _ (p .legal)) a (p .starts)

@@ -1,9 +1,9 @@
 -- The positions of the span by their index: position i lies i 256ths past the first breakpoint, and each position of the span
 -- is one of them.
 use mathlib.Core.Path.{_≡_}
-use Prim.Native.Nat.{ℕ, _+_, _<_}
+use Prim.Native.Nat.{ℕ, _<_}
 use native.Mathlib.Omega.{arith}
-use lib.IntN.{ℤ, pos, _+ℤ_, _-ℤ_, natAbs}
+use lib.IntN.{ℤ, pos, _-ℤ_, natAbs}
 use lib.Signed.{_<ℤ_, _≤ℤ_, leZ}
 use Rattle.base_exact.proofs.Decide.{and-true, holds-true}
 use Rattle.base_exact.proofs.Integer as Z

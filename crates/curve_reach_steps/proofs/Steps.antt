@@ -6,7 +6,7 @@ use mathlib.Core.List.{[], _∷_}
 use Prim.Native.Nat.{ℕ, zero, suc, _+_, _*_, _<_, _≤_}
 use native.Mathlib.Omega.{arith}
 use lib.IntN.{ℤ, pos, _+ℤ_, _-ℤ_, _*ℤ_, negℤ}
-use lib.Signed.{_≤ℤ_, nonNeg, yes-nonNeg}
+use lib.Signed.{_≤ℤ_}
 use Rattle.base_exact.specs.Floor.{nearest}
 use Rattle.base_exact.proofs.Integer as Z
 use Rattle.base_exact.proofs.Integer.{ℤ-ring}

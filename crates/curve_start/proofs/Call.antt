@@ -4,7 +4,7 @@ use mathlib.Core.Logic.{_⊎_, inl, inr}
 use Prim.Native.Nat.{ℕ, _/_, _<_, _≤_}
 use native.Mathlib.Omega.{arith}
 use borrow.Author.Tests.{lt-ltb, le-ltb}
-use lib.IntN.{ℤ, pos, natAbs}
+use lib.IntN.{pos, natAbs}
 use lib.ListN.{length, getD, List·getD-eq-default}
 use Rattle.base_exact.proofs.Decide.{le-or-lt, cond-true, cond-false}
 use Rattle.base_outcome.specs.Outcome.{Outcome, answer, refusal, capped, with-answer, _then_}

@@ -131,78 +131,60 @@ pub record Given : Type 0 where
 abbrev pub outcomeOf : Given → Outcome CurveResult
 outcomeOf g = ringsRead (g .lists) (g .coefs) (g .firstRing) (g .widths) (g .numLength) (g .denLength) (g .valuesLength) (g .indicesLength)
 
-module _ (given : Given) where
-  abbrev s : Space
-  s = given .lists
-
-  abbrev coefs : List ℤ
-  coefs = given .coefs
-
+module _ (g : Given) where
   abbrev firstRing : ℤ
-  firstRing = given .firstRing
+  firstRing = g .firstRing
 
   abbrev widths : List ℤ
-  widths = given .widths
-
-  abbrev numLength : ℕ
-  numLength = given .numLength
-
-  abbrev denLength : ℕ
-  denLength = given .denLength
-
-  abbrev valuesLength : ℕ
-  valuesLength = given .valuesLength
-
-  abbrev indicesLength : ℕ
-  indicesLength = given .indicesLength
+  widths = g .widths
 
   abbrev outcome : Outcome CurveResult
-  outcome = ringsRead s coefs firstRing widths numLength denLength valuesLength indicesLength
+  outcome = outcomeOf g
 
   abbrev handed : Outcome CurveResult
-  handed = curveOutcome s coefs (wordPositions firstRing (ringsTaken (length widths))) numLength denLength valuesLength
+  handed = curveOutcome (g .lists) (g .coefs) (wordPositions firstRing (ringsTaken (length widths))) (g .numLength) (g .denLength) (g .valuesLength)
 
-  pub first-short : numLength < tableCells → outcome ≡ refusal 1 0
+  pub first-short : g .numLength < tableCells → outcome ≡ refusal 1 0
   unfolding ringsRead capped
-  first-short h = cond-true _ _ (lt-ltb numLength tableCells h)
+  first-short h = cond-true _ _ (lt-ltb (g .numLength) tableCells h)
 
-  pub second-short : tableCells ≤ numLength → denLength < tableCells → outcome ≡ refusal 1 1
+  pub second-short : tableCells ≤ g .numLength → g .denLength < tableCells → outcome ≡ refusal 1 1
   unfolding ringsRead capped
-  second-short h k = cond-false _ _ (le-ltb numLength tableCells h) ∙ cond-true _ _ (lt-ltb denLength tableCells k)
+  second-short h k = cond-false _ _ (le-ltb (g .numLength) tableCells h) ∙ cond-true _ _ (lt-ltb (g .denLength) tableCells k)
 
-  module _ (h : tableCells ≤ numLength) (k : tableCells ≤ denLength) where
-    pub third-short : valuesLength / 2 < length widths → outcome ≡ refusal 1 2
+  module _ (h : tableCells ≤ g .numLength) (k : tableCells ≤ g .denLength) where
+    pub third-short : g .valuesLength / 2 < length widths → outcome ≡ refusal 1 2
     unfolding ringsRead capped
     third-short l =
-        long-enough numLength denLength _ h k
+        long-enough (g .numLength) (g .denLength) _ h k
         ∙ cond-true _ _
-        (lt-ltb (valuesLength / 2) (length (ringPositions firstRing (length widths))) (rw (exact-length firstRing (length widths)) l))
+        (lt-ltb (g .valuesLength / 2) (length (ringPositions firstRing (length widths))) (rw (exact-length firstRing (length widths)) l))
 
-    module _ (l : length widths ≤ valuesLength / 2) where
-      pub fourth-short : indicesLength < length widths → outcome ≡ refusal 1 3
+    module _ (l : length widths ≤ g .valuesLength / 2) where
+      pub fourth-short : g .indicesLength < length widths → outcome ≡ refusal 1 3
       unfolding ringsRead capped
       fourth-short m =
-          long-enough numLength denLength _ h k
-          ∙ cond-false _ _ (le-ltb (valuesLength / 2) (length (ringPositions firstRing (length widths))) (rw (exact-length firstRing (length widths)) l))
-          ∙ cond-true _ _ (lt-ltb indicesLength (length widths) m)
+          long-enough (g .numLength) (g .denLength) _ h k
+          ∙ cond-false _ _ (le-ltb (g .valuesLength / 2) (length (ringPositions firstRing (length widths))) (rw (exact-length firstRing (length widths)) l))
+          ∙ cond-true _ _ (lt-ltb (g .indicesLength) (length widths) m)
 
-      pub handed-on : length widths ≤ indicesLength → handed ≡ outcome
+      pub handed-on : length widths ≤ g .indicesLength → handed ≡ outcome
       unfolding ringsRead
       handed-on m =
-          outcome-same s coefs firstRing (length widths) numLength denLength valuesLength h k l
-          ∙ sym (long-enough numLength denLength _ h k
-          ∙ cond-false _ _ (le-ltb (valuesLength / 2) (length (ringPositions firstRing (length widths))) (rw (exact-length firstRing (length widths)) l))
-          ∙ cond-false _ _ (le-ltb indicesLength (length widths) m))
+          outcome-same (g .lists) (g .coefs) firstRing (length widths) (g .numLength) (g .denLength) (g .valuesLength) h k l
+          ∙ sym (long-enough (g .numLength) (g .denLength) _ h k
+          ∙ cond-false _ _ (le-ltb (g .valuesLength / 2) (length (ringPositions firstRing (length widths))) (rw (exact-length firstRing (length widths)) l))
+          ∙ cond-false _ _ (le-ltb (g .indicesLength) (length widths) m))
 
   -- an answer has a pair for each ring
   pub rings-answered : {r : CurveResult} → handed ≡ answer r → (length widths ≤ positionLimit) × (length (r .values) ≡ length widths)
   rings-answered {r} e =
       let p = wordPositions firstRing (ringsTaken (length widths)) in
-      let l = answered-calls-are-legal s coefs p numLength denLength valuesLength r e in
+      let l = answered-calls-are-legal (g .lists) (g .coefs) p (g .numLength) (g .denLength) (g .valuesLength) r e in
       let few : ringsTaken (length widths) ≤ positionLimit = rw (words-length firstRing (ringsTaken (length widths))) at (l .positionCount) in
-      let same = answer-unique e (legal-calls-answer s coefs p numLength denLength valuesLength l) in
+      let same = answer-unique e (legal-calls-answer (g .lists) (g .coefs) p (g .numLength) (g .denLength) (g .valuesLength) l) in
       let count : length (r .values) ≡ ringsTaken (length widths) =
-      ap (λ q. length (q .values)) same ∙ values-length s (l .accepted .table) coefs p ∙ words-length firstRing (ringsTaken (length widths)) in
+      ap (λ q. length (q .values)) same ∙ values-length (g .lists) (l .accepted .table) (g .coefs) p ∙ words-length firstRing (ringsTaken (length widths)) in
       (omega arith, count ∙ omega arith)
 
 -- the values' buffer is as long as it was

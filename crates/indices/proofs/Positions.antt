@@ -4,28 +4,28 @@ use mathlib.Core.Path.{_≡_, refl, sym, _∙_, ap, ap₂, subst}
 use mathlib.Core.Logic.{_⊎_, inl, inr}
 use mathlib.Core.Bool.{Bool, true, false, cond, not, _&&_}
 use mathlib.Core.List.{List}
-use mathlib.Core.Option.{Option, some, none}
-use Prim.Native.Nat.{ℕ, zero, suc, _+_, _*_, _/_, _<_, _≤_}
+use mathlib.Core.Option.{Option, none}
+use Prim.Native.Nat.{ℕ, zero, suc, _*_, _/_, _<_, _≤_}
 use native.Mathlib.Omega.{arith}
 use borrow.Author.Tests.{lt-ltb, le-ltb}
 use lib.Dec.{ltb, eqb}
-use lib.IntN.{ℤ, pos, negsuc, negℤ, _+ℤ_, _*ℤ_}
+use lib.IntN.{ℤ, pos, negsuc, negℤ, _+ℤ_}
 use lib.ListN.{length, getD}
-use lib.Signed.{leZ, ltZ, _<ℤ_, _≤ℤ_}
+use lib.Signed.{leZ, _<ℤ_, _≤ℤ_}
 use Rattle.base_exact.proofs.Decide.{le-or-lt, cond-true, cond-false, or-false}
-use Rattle.base_exact.proofs.Integer.{up, dn, bal-*, bal-neg, ≤-in, ≤-out, <-in, <-out, ≤-or->, ≤-<-trans, <-≤-trans}
+use Rattle.base_exact.proofs.Integer.{bal-*, ≤-in, ≤-out, <-in, <-out, ≤-or->, ≤-<-trans, <-≤-trans}
 use Rattle.base_exact.proofs.Tabulate.{tab-length, tab-getD, tab-ext}
-use Rattle.base_exact.proofs.Word.{lt-test, not-lt-test, not-le-test, le-test}
+use Rattle.base_exact.proofs.Word.{lt-test, not-lt-test, not-le-test}
 use Rattle.base_outcome.specs.Outcome.{Outcome, answer, refusal, refuse, largestPlace, _then_}
 use Rattle.base_outcome.specs.Search.{first}
-use Rattle.spec_spline.specs.Space.{Space, segments, break, badBreak, breakLimit, fitting, lengthsFit, checked, checkedEntries, rowCount}
+use Rattle.spec_spline.specs.Space.{Space, segments, break, badBreak, breakLimit, lengthsFit, checked, checkedEntries, rowCount}
 use Rattle.base_outcome.specs.Tests.{between, refuseFirst}
 use Rattle.spec_spline.specs.Reading.{fine}
 use Rattle.spec_spline.specs.CurveCall.{CurveResult, positionLimit, badCoefficient, badPosition, legalEntries, curveChecked, curveRead, curveOutcome}
 use Rattle.base_outcome.proofs.Search.{first-ext, first-none-inverts}
 use Rattle.spec_spline.proofs.Space.{between-inverts}
 use Rattle.spec_spline.proofs.Build.{long-enough}
-use Rattle.spec_spline.proofs.Legal.{Checked, checked-inverts, lengths-fit-inverts}
+use Rattle.spec_spline.proofs.Legal.{Checked, checked-inverts}
 use Rattle.spec_spline.specs.Table.{tableCells}
 use Rattle.theorems_values.proofs.LegalCall.{checks-passed}
 use Rattle.spec_calls.specs.Indices.{ringPositions}

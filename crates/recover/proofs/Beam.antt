@@ -139,35 +139,36 @@ module _ (b d o : List ℤ) (legal : ListsLegal b d o) (ordinates : List ℤ) (s
           abbrev all : List ℚ
           all = st .coefficients ++ q .coefficients
 
-          pub part-more : {coefNum′ coefDen′ : List ℤ} → coefNum′ ≡ listed numeratorOf (rows + rowCount part) all coefNum₀
-              → coefDen′ ≡ listed denominatorOf (rows + rowCount part) all coefDen₀
-              → Before s ordinates num₀ den₀ coefNum₀ coefDen₀ num′ den′ coefNum′ coefDen′ (rows + rowCount part) (partEnd s a)
-          part-more u v = record {
+          pub part-more : {n end : ℕ} {coefNum′ coefDen′ : List ℤ} → n ≡ rowCount part → end ≡ partEnd s a
+              → coefNum′ ≡ listed numeratorOf (rows + n) all coefNum₀ → coefDen′ ≡ listed denominatorOf (rows + n) all coefDen₀
+              → Before s ordinates num₀ den₀ coefNum₀ coefDen₀ num′ den′ coefNum′ coefDen′ (rows + n) end
+          part-more counted ends u v = rw (counted, ends) (record {
             state = built-more;
             coefficients = all;
             answers = front-answers s (orders-fit s (built.checks b d o legal)) a starts ordinates size (st .answers) e
                 ∙ ap (λ t. answer (record { table = t; coefficients = all }))
                 (built.both-is b d o legal (st .state) l (has .0) (built-more .table) (built-more .answers));
             count = length-append (st .coefficients) (q .coefficients) ∙ omega (arith, st .count, part-count);
-            coef-num-is = u;
-            coef-den-is = v;
-          }
+            coef-num-is = rw counted at u;
+            coef-den-is = rw counted at v;
+          })
 
       -- a part that is refused
-      pub part-refused : {code place : ℕ} {num′ den′ num″ den″ coefNum″ coefDen″ : List ℤ} → recovered part own ≡ refusal code place
+      pub part-refused : {code place at : ℕ} {num′ den′ num″ den″ coefNum″ coefDen″ : List ℤ} → at ≡ capped (a + place)
+          → recovered part own ≡ refusal code place
           → tableCells ≤ length num → tableCells ≤ length den → length ordinates ≤ length coefNum₀ → length ordinates ≤ length coefDen₀
           → Kept num num′ → Kept den den′ → num″ ≡ filled 0 tableCells (pos 0) num′ → den″ ≡ filled 0 tableCells (pos 1) den′
           → coefNum″ ≡ filled 0 (length ordinates) (pos 0) coefNum → coefDen″ ≡ filled 0 (length ordinates) (pos 1) coefDen
-          → Ends (recovered s ordinates) (Refused code (capped (a + place))) num″ den″ coefNum″ coefDen″
+          → Ends (recovered s ordinates) (Refused code at) num″ den″ coefNum″ coefDen″
       unfolding reply
-      part-refused {code} {place} {num′} {den′} {num″} {den″} {coefNum″} {coefDen″} e long long′ room room′ k k′ p q u v =
+      part-refused {code} {place} {at} {num′} {den′} {num″} {den″} {coefNum″} {coefDen″} placed e long long′ room room′ k k′ p q u v =
           let x = built.checks b d o legal in
           let told = recovered-clears part own code place e in
-          subst (λ o′. Ends o′ (Refused code (capped (a + place))) num″ den″ coefNum″ coefDen″)
+          subst (λ o′. Ends o′ (Refused code at) num″ den″ coefNum″ coefDen″)
           (sym (refused-front s x (partEnd s a) (part-ends s a l .boundary) ordinates size
           (front-refuses s (orders-fit s x) a starts ordinates size (st .answers) e)))
           (record {
-            answers = refl;
+            answers = ap (refusal code) placed;
             numerators-are = p ∙ numerators-cleared num num′ long k ∙ st .state .num-laid .over [] ∙ sym (cond-true _ _ told);
             denominators-are = q ∙ denominators-cleared den den′ long′ k′ ∙ st .state .den-laid .over [] ∙ sym (cond-true _ _ told);
             coefficient-numerators-are = u

@@ -15,12 +15,12 @@ use Rattle.base_fraction.specs.Machine.{value, FractionFits}
 use Rattle.base_fraction.specs.declared.Fraction.{Fraction}
 use Rattle.base_fraction.specs.declared.Counted.the-variants.{Fits}
 use Rattle.base_fraction.proofs.Value.{ratio-neg}
-use Rattle.base_outcome.specs.Outcome.{Outcome, answer, refuse, _then_}
+use Rattle.base_outcome.specs.Outcome.{answer, refuse, _then_}
 use Rattle.spec_spline.specs.Step.{count}
 use Rattle.spec_spline.specs.Table.{entry}
 use Rattle.base_outcome.proofs.Outcome.{answer-unique, answer-not-refusal, then-inverts}
 use Rattle.build_counted.specs.Machine.{counted}
-use Rattle.build_counted.proofs.Counted.{machine-counted, count-sized, fits-answered, lowest-sized}
+use Rattle.build_counted.proofs.Counted.{machine-counted, count-sized}
 use Rattle.spec_calls.specs.Recovery.{fitted, undoneCoefficient, undoneRow}
 
 -- which refusal it is does not show in the machine's answer

@@ -8,17 +8,16 @@ use lib.ListN.{length}
 use Rattle.base_exact.specs.Rational.{ℚ}
 use Rattle.base_fraction.specs.Fractions.{fractions}
 use Rattle.base_outcome.specs.Outcome.{Outcome, answer, refusal, _then_}
-use Rattle.base_outcome.proofs.Outcome.{then-answers, then-refuses, then-assoc}
+use Rattle.base_outcome.proofs.Outcome.{then-answers, then-refuses}
 use Rattle.spec_spline.specs.Conditions.{Entry}
 use Rattle.spec_spline.specs.Table.{Table, tableCells, numerators, denominators}
-use Rattle.spec_spline.specs.Step.{jumps, span, factors, Planned, planned, rowsRenewed}
+use Rattle.spec_spline.specs.Step.{span, factors, Planned, planned, rowsRenewed}
 use Rattle.build_cells.specs.Held.{Kept}
 use Rattle.build_cells.proofs.Buffer.{kept-numerators, kept-denominators}
 use Rattle.build_cells.specs.Left.{LeavesIf}
 use Rattle.build_cells.proofs.Left.{left-answer, left-refusal}
-use Rattle.build_step.proofs.Plan.{step-planned, Works, plan-works}
 use Rattle.build_step.proofs.Leaving.{renewed-refuses}
-use Rattle.spec_calls.specs.Recovery.{Combination, balanced, undone, recoverStep, undoing}
+use Rattle.spec_calls.specs.Recovery.{Combination, recoverStep, undoing}
 use Rattle.recover_joins.specs.Leaves.{coefficientsOf, toldCoefficients, Leaves}
 use Rattle.recover_joins.specs.declared.RowCoefficients.{RowCoefficients}
 use Rattle.recover_joins.specs.declared.UndoRefusal.the-variants as refusals

@@ -6,29 +6,16 @@ use lib.ListN.{length}
 use Rattle.base_exact.specs.Tabulate.{tab}
 use Rattle.base_outcome.specs.Outcome.{answer, refusal, capped}
 use Rattle.base_print.specs.Refusal.{refusalLine}
-use Rattle.base_text.specs.Bytes.{Text, bytes, lines, cut, fieldsBetween, stripped, indexWhere, beginsWith}
-use Rattle.base_text.specs.Numeral.{allDigits, digitsValue, isNatural, numeral}
+use Rattle.base_text.specs.Bytes.{Text, bytes, lines, stripped}
 use Rattle.spec_spline.specs.Reading.{latewood}
 use Rattle.spec_spline.proofs.Computing.{calling}
-use Rattle.spec_sheet.specs.SheetReading.{pair, entries, listOf, line, readLine as readSheetLine, fiveLines, read}
 use Rattle.spec_sheet.specs.Printout.{joined}
-use Rattle.spec_tucson.specs.Columns.{inColumns}
-use Rattle.spec_tucson.specs.Line.{linesOf, allPrintable, allBlank, isName, fieldNumerals, columnsFit, lineInColumns, lineOf}
-use Rattle.spec_tucson.specs.Line.{yearInDecade, withinDecade, isWidth, fieldsAllowed, goodLine}
-use Rattle.spec_tucson.specs.Series.{Series, allHundredths, fromHundredths, closedBy}
-use Rattle.spec_tucson.specs.TextReading.{goesOn, yearFollows, lastField, closing, lineStep, readLine, readLines, readText}
-use Rattle.spec_rings.specs.Parts.{headed, linesEnd}
-use Rattle.spec_rings.specs.Ready.{sheetRead, seriesRead, sheetCurve, Ready, readyOf, ready}
+use Rattle.spec_rings.specs.Parts.{headed}
+use Rattle.spec_rings.specs.Ready.{Ready, ready}
 use Rattle.spec_rings.specs.Rings.{headerLine, rings}
+use Rattle.spec_rings.proofs.Computing.{reading}
 use Rattle.rings_pieces.specs.Piece.{pieceOf}
 use Rattle.rings_pieces.proofs.Pieces.{pieces-are-rings, refusal-is-rings}
-
--- what a sheet and a file are read with
-unfoldable reading : Unit {0}
-unfolding capped bytes lines cut fieldsBetween stripped indexWhere beginsWith allDigits digitsValue isNatural numeral pair entries listOf line
-    readSheetLine fiveLines read inColumns linesOf allPrintable allBlank isName fieldNumerals columnsFit lineInColumns lineOf yearInDecade withinDecade
-    isWidth fieldsAllowed goodLine allHundredths fromHundredths closedBy goesOn yearFollows lastField closing lineStep readLine readLines readText
-reading = tt
 
 -- ---- what is ready
 unfoldable input : Text
@@ -55,7 +42,7 @@ made = record {
 }
 
 input-ready : ready input ≡ answer made
-unfolding calling reading headed linesEnd sheetRead seriesRead sheetCurve readyOf ready input
+unfolding calling reading input
 input-ready = refl
 
 one-piece : headerLine ++ joined (tab (length (made .series)) (pieceOf (ready input))) ≡ rings input

@@ -2,70 +2,38 @@
 use mathlib.Core.Path.{_≡_, refl, sym, _∙_, ap, ap₂}
 use mathlib.Core.Bool.{Bool, true, false, cond}
 use mathlib.Core.List.{List, [], _∷_, _++_, map}
-use mathlib.Core.Option.{Option, some, none}
 use Prim.Native.Nat.{ℕ, zero, suc, _+_, _*_, _<_, _≤_}
 use native.Mathlib.Omega.{arith}
-use lib.Dec.{ltb}
 use lib.IntN.{ℤ, pos}
 use lib.ListN.{length, take, drop, getD, length-map, List·getD-map}
 use lib.Seq.{ext-getD}
 use Rattle.base_exact.specs.Tabulate.{tab}
 use Rattle.base_exact.proofs.Tabulate.{tab-length, tab-getD}
-use Rattle.base_outcome.specs.Outcome.{Outcome, answer, refusal, refuse, _then_}
-use Rattle.base_outcome.proofs.Outcome.{answer-unique, answer-not-refusal, then-inverts}
+use Rattle.base_outcome.specs.Outcome.{answer, refuse, _then_}
+use Rattle.base_outcome.proofs.Outcome.{then-inverts}
 use Rattle.base_text.specs.Bytes.{Text}
 use Rattle.spec_spline.specs.Space.{Space, lengthsFit}
 use Rattle.spec_spline.specs.Table.{tableCells}
 use Rattle.spec_spline.specs.Reading.{Wood, sideBySide}
 use Rattle.spec_spline.specs.CurveCall.{CurveResult, curveChecked, curveRead, curveOutcome}
-use Rattle.spec_spline.proofs.Legal.{cond-refuse-inverts, fitting-inverts}
+use Rattle.spec_spline.proofs.Legal.{fitting-inverts}
 use Rattle.spec_sheet.specs.SheetReading.{Lists}
 use Rattle.spec_sheet.specs.Sheet.{argumentsOf, spaceOf}
 use Rattle.spec_sheet.specs.Printout.{joined}
 use Rattle.spec_tucson.specs.Line.{nameColumns, isName}
 use Rattle.spec_tucson.specs.Series.{Series}
-use Rattle.spec_tucson.specs.TextReading.{readText}
 use Rattle.spec_tucson.specs.ReadCall.{namesOf, yearsOf, countsOf, widthsOf}
 use Rattle.theorems_tucson.proofs.Rewritten.{read-is-writable}
 use Rattle.build_space.specs.Machine.{space}
-use Rattle.spec_rings.specs.Parts.{Headed, headed, sheetPart, seriesPart}
-use Rattle.spec_rings.specs.Ready.{textLimit, moved, seriesPlace, sheetRead, seriesRead, sheetCurve, Ready, readyOf, readyIf, ready}
+use Rattle.spec_rings.specs.Ready.{sheetCurve, Ready, ready}
 use Rattle.spec_rings.specs.Rings.{headerLine, seriesText, pieces, readyText, rings}
+use Rattle.spec_rings.proofs.Accepted.{accepted}
 use Rattle.rings_read.specs.Machine.{Front, FileHeld}
 use Rattle.rings_text.specs.Printed.{SeriesAsks, seriesLimit}
 use Rattle.rings_pieces.specs.Piece.{pieceOf, Held, Turn, PieceAsks, PiecesAreRings, RefusalIsRings}
 use Rattle.rings_pieces.proofs.Turns.{noSeries, seriesAt, named-at, names-at, year-at, count-at, widths-at, widths-more, widths-within, front-part, front-at}
 
 -- ---- what is ready
-
--- The parts of it.
-record Parts (r : Ready) : Type 0 where
-  text : Text
-  reads : readText text ≡ answer (r .series)
-  result : CurveResult
-  curve : sheetCurve (r .lists) ≡ answer result
-
-moved-inverts : {A : Type 0} (to : ℕ → ℕ) (o : Outcome A) {a : A} → moved to o ≡ answer a → o ≡ answer a
-moved-inverts to (answer b) e = e
-moved-inverts to (refusal code place) e = absurd (answer-not-refusal e refl)
-
-parts : (input : Text) (r : Ready) → ready input ≡ answer r → Parts r
-unfolding ready readyOf seriesRead
-parts input r e = heads (headed input) (cond-refuse-inverts (ltb textLimit (length input)) 1 0 (readyIf (headed input)) e .1)
-  where
-    heads : (o : Option Headed) → readyIf o ≡ answer r → Parts r
-    heads none e = absurd (answer-not-refusal e refl)
-    heads (some h) e =
-        let a = then-inverts (sheetRead (sheetPart (h .rest))) _ e in
-        let b = then-inverts (moved seriesPlace (readText (seriesPart (h .rest)))) _ (a .after) in
-        let c = then-inverts (sheetCurve (a .middle)) _ (b .after) in
-        let is : record { wood = h .wood; lists = a .middle; series = b .middle } ≡ r = answer-unique refl (c .after) in
-        record {
-          text = seriesPart (h .rest);
-          reads = moved-inverts seriesPlace (readText (seriesPart (h .rest))) (b .before) ∙ ap (λ (q : Ready). answer (q .series)) is;
-          result = c .middle;
-          curve = ap (λ (q : Ready). sheetCurve (q .lists)) (sym is) ∙ c .before;
-        }
 
 lists-fit : (l : Lists) (q : CurveResult) → sheetCurve l ≡ answer q → lengthsFit (spaceOf (argumentsOf l)) ≡ true
 unfolding sheetCurve curveOutcome curveChecked
@@ -76,10 +44,10 @@ lists-fit l q e =
 
 module _ (input : Text) (r : Ready) (e : ready input ≡ answer r) where
   pub ready-fits : lengthsFit (spaceOf (argumentsOf (r .lists))) ≡ true
-  ready-fits = let p = parts input r e in lists-fit (r .lists) (p .result) (p .curve)
+  ready-fits = let p = accepted input r e in lists-fit (r .lists) (p .result) (p .curve)
 
   pub ready-named : (k : ℕ) → k < length (r .series) → isName (seriesAt (r .series) k .name) ≡ true
-  ready-named = let p = parts input r e in named-at (r .series) 0 [] (read-is-writable (p .text) (r .series) (p .reads))
+  ready-named = let p = accepted input r e in named-at (r .series) 0 [] (read-is-writable (p .text) (r .series) (p .reads))
 
   pub piece-is : (k : ℕ) → k < length (r .series)
       → pieceOf (ready input) k ≡ seriesText (r .wood) (spaceOf (argumentsOf (r .lists))) (sideBySide (r .lists .coefs)) (seriesAt (r .series) k)

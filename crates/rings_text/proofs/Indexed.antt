@@ -23,7 +23,7 @@ use Rattle.base_outcome.proofs.Search.{first-none-inverts}
 use Rattle.base_text.specs.Bytes.{Text}
 use Rattle.spec_spline.specs.Space.{Space, lengthsFit}
 use Rattle.spec_spline.specs.Table.{tableCells}
-use Rattle.spec_spline.specs.Reading.{Wood, earlywood, latewood, woodIndex, sideBySide}
+use Rattle.spec_spline.specs.Reading.{Wood, woodIndex, sideBySide}
 use Rattle.spec_spline.specs.CurveCall.{positionLimit, CurveResult, curveChecked, curveRead, curveOutcome, valuesAfter}
 use Rattle.spec_spline.specs.ExactCurve.{Legal}
 use Rattle.spec_spline.proofs.Legal.{refuseFirst-inverts}
@@ -34,6 +34,7 @@ use Rattle.spec_tucson.specs.Series.{Series}
 use Rattle.spec_tucson.specs.WriteCall.{textAfter}
 use Rattle.spec_table.specs.RingLines.{nameText, IndexedSeries, ringLines}
 use Rattle.spec_table.specs.RingLinesCall.{ringListsFit, ringLinesOutcome, ringLinesEnd}
+use Rattle.spec_table.proofs.Names.{name-short}
 use Rattle.spec_rings.specs.Rings.{indexedSeries, seriesValues, faultyRing, faultLine, faultOf, indexedText, valuedText, seriesText}
 use Rattle.theorems_values.specs.ValueLimits.{legalResult}
 use Rattle.theorems_values.proofs.LegalCall.{answered-calls-are-legal, legal-calls-answer, values-length}
@@ -42,8 +43,9 @@ use Rattle.theorems_indices.proofs.Cells.{exact-length}
 use Rattle.theorems_indices.proofs.Ring.{passes-small}
 use Rattle.table_lines.proofs.Rows.{rowsOf, ring-lines-are}
 use Rattle.rings_read.specs.Machine.{Front}
+use Rattle.table_lines.proofs.Call.{wood-two}
 use Rattle.rings_text.specs.Printed.{seriesLimit}
-use Rattle.rings_text.proofs.Bounds.{name-short, numbers-short, index-size, rows-short}
+use Rattle.rings_text.proofs.Bounds.{numbers-short, index-size, rows-short}
 
 -- ---- the lines, as the call of the table leaves them
 module _ (wood : Wood) (i : IndexedSeries) (fit : ringListsFit i ≡ true) (named : isName (i .name) ≡ true) (out : List ℕ)
@@ -68,10 +70,6 @@ module _ (wood : Wood) (i : IndexedSeries) (fit : ringListsFit i ≡ true) (name
         let t = ringLines wood i in
         let whole : end ≡ t ++ drop (length t) out = e ∙ ap (λ o. textAfter o out) lines-answer in
         record { fits = omega (arith, k, ap length whole, length-append t (drop (length t) out)); is = ap (take n) whole ∙ take-at t (drop (length t) out) n (sym k) }
-
-one-of-two : (wood : Wood) → woodIndex wood ≤ 1
-one-of-two earlywood = omega arith
-one-of-two latewood = omega arith
 
 -- ---- one series
 module _ (wood : Wood) (s : Space) (coefs : List ℤ) (name : Text) (year : ℤ) (widths : List ℤ) where
@@ -235,7 +233,7 @@ module _ (wood : Wood) (s : Space) (coefs : List ℤ) (name : Text) (year : ℤ)
               arith,
               cells-are-close s coefs positions tableCells tableCells (length values) legal [] j (omega (arith, count)) wood .size,
               ap (λ (o : Outcome CurveResult). natAbs (getD (valuesAfter o []) i (pos 0))) curve-answers,
-              ap natAbs (List·getD-append (sideBySide (r .values)) rest (pos 0) i (omega (arith, sideBySide-length (r .values), values-count, one-of-two wood))),
+              ap natAbs (List·getD-append (sideBySide (r .values)) rest (pos 0) i (omega (arith, sideBySide-length (r .values), values-count, wood-two wood))),
             )
 
         index-small : (j : ℕ) → j < n → natAbs (getD zs j (pos 0)) < 10 ^ 20

@@ -21,8 +21,11 @@ const MOST_RINGS: u32 = limits::POSITION_LIMIT as u32;
 // The cells of the values of as many rings, two each.
 const VALUE_CELLS: usize = 2 * limits::POSITION_LIMIT;
 
+// The most bytes of a line: `lineLimit` of specs/Printed.
+const LINE_LIMIT: usize = 118;
+
 // The most bytes of a series' lines.
-pub const SERIES_BYTES: usize = 483328;
+pub const SERIES_BYTES: usize = LINE_LIMIT * limits::POSITION_LIMIT;
 
 // The first ring at fault.
 fn fault_ring(code: u8, place: u32) -> u32

@@ -1,14 +1,13 @@
 -- What a part of a text stands for: a pair, by where its first colon stands and whether its sides are numerals.
 use mathlib.Core.Path.{_≡_, refl, sym, _∙_, ap, ap₂}
-use mathlib.Core.Bool.{Bool, true, false, cond, _||_}
-use mathlib.Core.List.{[], _∷_}
+use mathlib.Core.Bool.{true, false}
 use mathlib.Core.Option.{Option, some, none}
-use Prim.Native.Nat.{ℕ, suc, _+_, _<_, _≤_}
+use Prim.Native.Nat.{ℕ, suc, _+_, _<_}
 use native.Mathlib.Omega.{arith}
 use lib.IntN.{ℤ}
 use lib.Seq.{slice, length-slice}
 use Rattle.base_exact.proofs.Decide.{clash}
-use Rattle.base_text.specs.Bytes.{Text, comma, colon, Range, indexWhere, indexOf}
+use Rattle.base_text.specs.Bytes.{Text, colon, Range, indexOf}
 use Rattle.base_text.specs.Numeral.{numeral}
 use Rattle.base_text.proofs.Slice.{take-slice, drop-slice}
 use Rattle.base_text.proofs.Cutting.{cut-none, cut-some}

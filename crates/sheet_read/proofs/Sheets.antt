@@ -4,18 +4,14 @@ use mathlib.Core.Path.{_≡_, refl, _∙_, ap, ap₂, subst}
 use mathlib.Core.Option.{Option, some, none}
 use Prim.Native.Nat.{ℕ, _+_, _<_, _≤_}
 use native.Mathlib.Omega.{arith}
-use borrow.Author.Tests.{lt-ltb, le-ltb}
-use lib.IntN.{ℤ}
 use lib.ListN.{length, drop}
 use lib.Seq.{drop-length, drop-cons}
 use Rattle.base_exact.proofs.Decide.{clash}
-use Rattle.base_outcome.specs.Outcome.{Outcome, answer, refusal, refuse, _then_}
-use Rattle.spec_spline.specs.Reading.{Pair}
+use Rattle.base_outcome.specs.Outcome.{Outcome, answer, refusal, refuse, capped, _then_}
 use Rattle.base_text.specs.Bytes.{Text}
 use Rattle.base_text.specs.Numeral.{numeral}
-use Rattle.spec_sheet.specs.SheetReading.{sheetLimit, pair, Line, line, readLine, breaksKey, degreesKey, ordersKey, coefsKey, atKey, Lists}
-use Rattle.spec_sheet.specs.SheetReading.{ended, fiveLines, read}
-use Rattle.spec_sheet.proofs.FiveLines.{NumeralLine, PairLine, read-short, line-answers, line-refuses, lists, after-one, after-five}
+use Rattle.spec_sheet.specs.SheetReading.{sheetLimit, Line, line, readLine, breaksKey, Lists, ended, fiveLines, read}
+use Rattle.spec_sheet.proofs.FiveLines.{NumeralLine, read-short, line-answers, line-refuses, lists, after-one, after-five}
 use Rattle.sheet_lines.specs.Machine.{Spans, LineAt}
 use Rattle.sheet_read.specs.Scanned.{ListsAt, Scanned}
 use Rattle.sheet_lines.specs.declared.LineSpan.{LineSpan}
@@ -40,15 +36,24 @@ module _ {A : Type 0} (entry : Text → Option A) (text : Text) where
       let same-end : t ≡ end = cc in
       (l, refl, rw (same-start, same-end) at h)
 
+-- ---- the answer for the text
+pub scan-refused : (text : Text) {place : ℕ} → read text ≡ refusal 10 place → Scanned text (read text) (spans-cases.Refused place)
+scan-refused text e = rw e (refl, refl)
+
+pub scan-lists : (text : Text) {l : Lists} {b b-end d d-end o o-end c c-end p p-end : ℕ} → read text ≡ answer l
+    → ListsAt text l b b-end d d-end o o-end c c-end p p-end → Scanned text (read text) (spans-cases.Lists b b-end d d-end o o-end c c-end p p-end)
+scan-lists text e at = rw e at
+
 -- A line is good, and reading goes on with it.
 pub record Reached {A : Type 0} (entry : Text → Option A) (text : Text) (next : Line A → Outcome Lists) (start end : ℕ) : Type 0 where
   pub line : Line A
   pub spans : Spans entry text line start end
   pub so-far : read text ≡ next line
+  pub short : length text ≤ sheetLimit
 
 -- a good line, and a bad one, at the head of what is left to read
 module _ {A : Type 0} (entry : Text → Option A) (text : Text) (place : ℕ) (key : Text) (next : Line A → Outcome Lists) (at : ℕ) (left : Text)
-    (same : left ≡ drop at text) (so-far : read text ≡ (readLine place entry key left then next)) (r : LineSpan)
+    (same : left ≡ drop at text) (so-far : read text ≡ (readLine place entry key left then next)) (short : length text ≤ sheetLimit) (r : LineSpan)
     (found : LineAt entry text (line entry key (drop at text)) r) where
   reach : (start end : ℕ) → r ≡ span-cases.List start end → Reached entry text next start end
   reach start end e =
@@ -57,12 +62,13 @@ module _ {A : Type 0} (entry : Text → Option A) (text : Text) (place : ℕ) (k
         line = good .0;
         spans = good .2;
         so-far = so-far ∙ ap (λ (o : Outcome (Line A)). o then next) (line-answers entry place key left (ap (line entry key) same ∙ good .1));
+        short = short;
       }
 
-  refuse-line : r ≡ span-cases.Bad → read text ≡ refuse 10 place
+  refuse-line : r ≡ span-cases.Bad → Scanned text (read text) (spans-cases.Refused (capped place))
   refuse-line e =
       let bad = line-none entry text (line entry key (drop at text)) r found e in
-      so-far ∙ ap (λ (o : Outcome (Line A)). o then next) (line-refuses entry place key left (ap (line entry key) same ∙ bad))
+      scan-refused text (so-far ∙ ap (λ (o : Outcome (Line A)). o then next) (line-refuses entry place key left (ap (line entry key) same ∙ bad)))
 
 -- ---- the first line
 module _ (text : Text) (short : length text ≤ sheetLimit) (r : LineSpan) (found : LineAt numeral text (line numeral breaksKey text) r) where
@@ -71,20 +77,20 @@ module _ (text : Text) (short : length text ≤ sheetLimit) (r : LineSpan) (foun
   so-far-none = read-short text short
 
   pub first-line : (start end : ℕ) → r ≡ span-cases.List start end → Reached numeral text (after-one lists) start end
-  first-line = reach numeral text 1 breaksKey (after-one lists) 0 text refl so-far-none r found
+  first-line = reach numeral text 1 breaksKey (after-one lists) 0 text refl so-far-none short r found
 
-  pub first-bad : r ≡ span-cases.Bad → read text ≡ refuse 10 1
-  first-bad = refuse-line numeral text 1 breaksKey (after-one lists) 0 text refl so-far-none r found
+  pub first-bad : r ≡ span-cases.Bad → Scanned text (read text) (spans-cases.Refused (capped 1))
+  first-bad = refuse-line numeral text 1 breaksKey (after-one lists) 0 text refl so-far-none short r found
 
 -- a line of entries of one kind, behind one of another
 module _ {A B : Type 0} (before : Text → Option A) (entry : Text → Option B) (text : Text) (place : ℕ) (key : Text)
     (next : Line A → Line B → Outcome Lists) (s t : ℕ) (prev : Reached before text (λ l. readLine place entry key (l .rest) then next l) s t)
     (r : LineSpan) (found : LineAt entry text (line entry key (drop (t + 1) text)) r) where
   pub next-line : (start end : ℕ) → r ≡ span-cases.List start end → Reached entry text (next (prev .line)) start end
-  next-line = reach entry text place key (next (prev .line)) (t + 1) (prev .line .rest) (prev .spans .rest) (prev .so-far) r found
+  next-line = reach entry text place key (next (prev .line)) (t + 1) (prev .line .rest) (prev .spans .rest) (prev .so-far) (prev .short) r found
 
-  pub next-bad : r ≡ span-cases.Bad → read text ≡ refuse 10 place
-  next-bad = refuse-line entry text place key (next (prev .line)) (t + 1) (prev .line .rest) (prev .spans .rest) (prev .so-far) r found
+  pub next-bad : r ≡ span-cases.Bad → Scanned text (read text) (spans-cases.Refused (capped place))
+  next-bad = refuse-line entry text place key (next (prev .line)) (t + 1) (prev .line .rest) (prev .spans .rest) (prev .so-far) (prev .short) r found
 
 module _ (text : Text) (make : NumeralLine → Lists) (s t : ℕ) (prev : Reached numeral text (after-five make) s t) where
   pub last-line : t + 1 ≡ length text → read text ≡ answer (make (prev .line))
@@ -98,14 +104,7 @@ module _ (text : Text) (make : NumeralLine → Lists) (s t : ℕ) (prev : Reache
       prev .so-far
       ∙ ap (λ (rest : Text). ended rest (make (prev .line))) (prev .spans .rest ∙ drop-cons text (t + 1) 0 more)
 
--- ---- the answer for the text
-pub scan-refused : (text : Text) (place : ℕ) → read text ≡ refusal 10 place → Scanned text (read text) (spans-cases.Refused place)
-scan-refused text place e = rw e (refl, refl)
-
-pub scan-lists : (text : Text) {l : Lists} {b b-end d d-end o o-end c c-end p p-end : ℕ} → read text ≡ answer l
-    → ListsAt text l b b-end d d-end o o-end c c-end p p-end → Scanned text (read text) (spans-cases.Lists b b-end d d-end o o-end c c-end p p-end)
-scan-lists text e at = rw e at
-
+-- ---- what an answer says of the text
 refusal-scanned : (text : Text) (o : Outcome Lists) (place : ℕ) → Scanned text o (spans-cases.Refused place) → o ≡ refusal 10 place
 refusal-scanned text (answer l) place h = absurd h
 refusal-scanned text (refusal code at) place h = ap₂ refusal (h .0) (h .1)

@@ -3,49 +3,17 @@ use mathlib.Core.Path.{_≡_, refl, ap, _∙_}
 use mathlib.Core.List.{List, [], _∷_}
 use Prim.Native.String.{String}
 use lib.IntN.{ℤ, pos}
-use Rattle.base_exact.specs.Floor.{nearest}
-use Rattle.base_exact.specs.Tabulate.{tab}
 use Rattle.base_outcome.specs.Outcome.{answer, capped}
-use Rattle.base_outcome.specs.Search.{first}
 use Rattle.base_print.specs.Refusal.{refusalLine}
-use Rattle.base_text.specs.Bytes.{Text, bytes, lines, cut, fieldsBetween, stripped, indexWhere, beginsWith}
-use Rattle.base_text.specs.Numeral.{allDigits, digitsValue, isNatural, numeral, digitsUpTo, digits, decimal}
+use Rattle.base_text.specs.Bytes.{bytes, lines, stripped}
+use Rattle.base_text.specs.Numeral.{digitsUpTo, digits}
 use Rattle.spec_spline.specs.Reading.{latewood}
 use Rattle.spec_spline.proofs.Computing.{calling}
-use Rattle.spec_calls.specs.Indices.{ringPositions, isRefused, badRing, indexOf, ringIndices, ringsRead, ringsIndexed}
-use Rattle.spec_sheet.specs.SheetReading.{pair, entries, listOf, line, readLine as readSheetLine, Lists, fiveLines, read}
-use Rattle.spec_sheet.specs.Printout.{joined}
-use Rattle.spec_tucson.specs.Columns.{inColumns}
-use Rattle.spec_tucson.specs.Line.{linesOf, allPrintable, allBlank, isName, fieldNumerals, columnsFit, lineInColumns, lineOf}
-use Rattle.spec_tucson.specs.Line.{yearInDecade, withinDecade, isWidth, fieldsAllowed, goodLine}
-use Rattle.spec_tucson.specs.Series.{Series, allHundredths, fromHundredths, closedBy}
-use Rattle.spec_tucson.specs.TextReading.{goesOn, yearFollows, lastField, closing, lineStep, readLine, readLines, readText}
-use Rattle.spec_tucson.specs.Shown.{trimmed}
-use Rattle.spec_table.specs.Decimals.{lastDigits, withDecimals, millionths, indexText}
-use Rattle.spec_table.specs.RingLines.{withoutLeading, bareName, holdsQuoted, doubled, quotedName, numbersText, ringLine, linesOfRings, ringLines}
-use Rattle.spec_rings.specs.Parts.{headed, linesEnd}
-use Rattle.spec_rings.specs.Ready.{sheetRead, seriesRead, sheetCurve, Ready, readyOf, ready}
-use Rattle.spec_rings.specs.Rings.{seriesValues, faultyRing, faultLine, indexedText, valuedText, seriesText, pieces, readyText, rings}
-
--- what a sheet and a file are read with
-unfoldable reading : Unit {0}
-unfolding capped bytes lines cut fieldsBetween stripped indexWhere beginsWith allDigits digitsValue isNatural numeral pair entries listOf line
-    readSheetLine fiveLines read inColumns linesOf allPrintable allBlank isName fieldNumerals columnsFit lineInColumns lineOf yearInDecade withinDecade
-    isWidth fieldsAllowed goodLine allHundredths fromHundredths closedBy goesOn yearFollows lastField closing lineStep readLine readLines readText headed
-    linesEnd sheetRead seriesRead sheetCurve readyOf ready
-reading = tt
-
--- what the lines of a series are written with
-unfoldable writing : Unit {0}
-unfolding bytes lines digitsUpTo digits decimal lastDigits withDecimals nearest millionths indexText trimmed withoutLeading bareName holdsQuoted doubled
-    quotedName tab numbersText ringLine linesOfRings ringLines
-writing = tt
-
--- what the indices of a series are worked out with
-unfoldable indexing : Unit {0}
-unfolding tab first ringPositions isRefused badRing indexOf ringIndices ringsRead ringsIndexed seriesValues faultyRing faultLine indexedText valuedText
-    seriesText pieces joined readyText
-indexing = tt
+use Rattle.spec_tucson.specs.Series.{Series}
+use Rattle.spec_rings.specs.Parts.{headed}
+use Rattle.spec_rings.specs.Ready.{Ready, ready}
+use Rattle.spec_rings.specs.Rings.{readyText, rings}
+use Rattle.spec_rings.proofs.Computing.{reading, writing, indexing}
 
 -- The program gives these lines for those.
 abbrev Gives : List String → List String → Type 0

@@ -18,7 +18,7 @@ use Rattle.spec_table.specs.RingLines.{withoutLeading, bareName, holdsQu
 use Rattle.spec_table.specs.RingLinesCall.{ringListsFit, ringLinesOutcome, ringLinesEnd}
 
 -- what numbers and names are written with
-unfoldable writing : Unit {0}
+unfoldable pub writing : Unit {0}
 unfolding bytes lines digitsUpTo digits decimal lastDigits withDecimals nearest millionths indexText trimmed withoutLeading bareName
     holdsQuoted doubled quotedName
 writing = tt

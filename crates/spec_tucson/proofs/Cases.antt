@@ -6,30 +6,21 @@ use Prim.Native.Nat.{ℕ}
 use Prim.Native.String.{String}
 use lib.IntN.{ℤ, pos, negℤ}
 use Rattle.base_outcome.specs.Outcome.{Outcome, answer, refusal, capped}
-use Rattle.base_text.specs.Bytes.{bytes, lines, cut, beginsWith}
-use Rattle.base_text.specs.Numeral.{allDigits, digitsValue, isNatural, numeral, digitsUpTo, digits, decimal}
-use Rattle.spec_tucson.specs.Columns.{inColumns, columns}
-use Rattle.spec_tucson.specs.Line.{linesOf, allPrintable, allBlank, isName, fieldNumerals, columnsFit, lineInColumns, lineOf}
-use Rattle.spec_tucson.specs.Line.{yearInDecade, withinDecade, isWidth, fieldsAllowed, goodLine}
-use Rattle.spec_tucson.specs.Series.{Series, allHundredths, fromHundredths, closedBy}
-use Rattle.spec_tucson.specs.TextReading.{goesOn, yearFollows, lastField, closing, lineStep, readLine, readLines, readText}
+use Rattle.base_text.specs.Bytes.{bytes, lines, beginsWith}
+use Rattle.spec_tucson.specs.Line.{allPrintable, allBlank, isName, isWidth}
+use Rattle.spec_tucson.specs.Series.{Series}
+use Rattle.spec_tucson.specs.TextReading.{readText}
 use Rattle.spec_tucson.specs.ReadCall.{namesOf, yearsOf, countsOf, widthsOf, roomFor, readOutcome, filled, readEnd}
-use Rattle.spec_tucson.specs.Writing.{inLines, linesFrom, seriesLines, fieldsText, lineText, linesText, written, yearsFit, allWidths}
+use Rattle.spec_tucson.specs.Writing.{written, yearsFit, allWidths}
 use Rattle.spec_tucson.specs.Writing.{isWritable, firstUnwritable}
 use Rattle.spec_tucson.specs.WriteCall.{total, listsFit, seriesOf, seriesOutcome, writeOutcome, textAfter, writeEnd}
+use Rattle.spec_tucson.proofs.Computing.{reading, writing}
 
 -- A series by its name, its first year and its widths.
 abbrev series : String → ℤ → List ℤ → Series
 series name year widths = record { name = bytes name; firstYear = year; widths = widths }
 
 -- ---- reading
-
--- what a text is read with
-unfoldable reading : Unit {0}
-unfolding bytes lines cut beginsWith allDigits digitsValue isNatural numeral inColumns linesOf allPrintable allBlank isName fieldNumerals columnsFit
-    lineInColumns lineOf yearInDecade withinDecade isWidth fieldsAllowed goodLine allHundredths fromHundredths closedBy goesOn yearFollows lastField
-    closing lineStep readLine readLines readText capped
-reading = tt
 
 -- The text of these lines reads so.
 abbrev Reads : List String → Outcome (List Series) → Type 0
@@ -102,11 +93,6 @@ unfolding reading namesOf yearsOf countsOf widthsOf roomFor readOutcome filled
 read-calls = (refl, refl, refl)
 
 -- ---- writing
-
--- what series are written with
-unfoldable writing : Unit {0}
-unfolding bytes lines digitsUpTo digits decimal columns yearInDecade inLines linesFrom seriesLines fieldsText lineText linesText written
-writing = tt
 
 -- These series have the text of these lines.
 abbrev Writes : List Series → List String → Type 0

@@ -3,12 +3,17 @@ use mathlib.Core.Path.{_≡_, refl, sym, _∙_, ap}
 use mathlib.Core.Bool.{Bool, true, false, cond, not}
 use mathlib.Core.List.{List, [], _∷_}
 use mathlib.Core.Option.{Option, some, none}
-use Prim.Native.Nat.{ℕ, suc, _<_}
+use Prim.Native.Nat.{ℕ, suc, _<_, _≤_}
+use native.Mathlib.Omega.{arith}
+use lib.ListN.{length}
 use Rattle.base_exact.proofs.Decide.{clash}
 use Rattle.base_outcome.specs.Outcome.{Outcome, answer, refusal, refuse, _then_, with-answer}
 use Rattle.base_text.specs.Bytes.{Text}
 use Rattle.spec_tucson.specs.StrictLine.{strictLine, Kept}
 use Rattle.spec_tucson.specs.KeptLines.{isMisnamed, isData, keptThen, keptLines}
+use Rattle.spec_tucson.specs.TextReading.{lastField}
+use Rattle.spec_tucson.specs.CleanSeries.{continues, fieldsOf, closingAfter}
+use Rattle.spec_tucson.specs.CleanNotes.{Ahead, oneMore, ahead}
 
 pub kept-other : (h i : ℕ) (b : Option Kept) (r : Text) (rs : List Text) → isData h i r ≡ false → keptLines h i b (r ∷ rs) ≡ keptLines h (suc i) b rs
 unfolding keptLines
@@ -44,3 +49,15 @@ kept-data h i b r rs ks d e = strict (strictLine i r) refl (ap (λ (x : Bool). c
         → KeptData h i b r rs ks
     strict (answer t) s e = named t s (isMisnamed b (record { line = i; raw = r; text = t })) refl e
     strict (refusal code place) s e = clash cc
+
+-- ---- what stands ahead of a line has that line
+pub ahead-some : (unit : ℕ) (k : Kept) (ks : List Kept) → 1 ≤ ahead unit (k ∷ ks) .count
+unfolding ahead
+ahead-some unit k ks = go (continues k ks)
+  where
+    last : Ahead
+    last = record { count = 1; closing = closingAfter unit (lastField (fieldsOf (k .text))); lastFields = length (fieldsOf (k .text)) }
+
+    go : (b : Bool) → 1 ≤ cond b (oneMore (ahead unit ks)) last .count
+    go true = omega arith
+    go false = omega arith

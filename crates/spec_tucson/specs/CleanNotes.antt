@@ -1,4 +1,4 @@
--- The notes (§ 16, notes): what was changed or left out, and what a reader should look at, a number and a line each, by rising
+-- The notes (§ 16, remarks): what was changed or left out, and what a reader should look at, a number and a line each, by rising
 -- line, then number.
 use mathlib.Core.Bool.{Bool, true, false, cond, _&&_, _||_, not}
 use mathlib.Core.List.{List, [], _∷_, _++_, dropLast}

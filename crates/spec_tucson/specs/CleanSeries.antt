@@ -12,7 +12,7 @@ use Rattle.base_outcome.specs.Outcome.{Outcome, answer, refuse, _then_, with-an
 use Rattle.base_text.specs.Bytes.{Text, newline, minus}
 use Rattle.base_text.specs.Numeral.{isDigit}
 use Rattle.spec_tucson.specs.Columns.{blank, columns}
-use Rattle.spec_tucson.specs.Line.{Line, nameColumns, yearColumns, fieldColumns, same, thousandths, lineInColumns}
+use Rattle.spec_tucson.specs.Line.{Line, nameColumns, headColumns, fieldColumns, same, thousandths, lineInColumns}
 use Rattle.spec_tucson.specs.Series.{Series, hundredths}
 use Rattle.spec_tucson.specs.TextReading.{Begun, lastField, readLine, after}
 use Rattle.spec_tucson.specs.Shown.{trimmed}
@@ -76,7 +76,7 @@ anyBlank (c ∷ cs) = eqb c blank || anyBlank cs
 -- The line is shifted: its name begins with a blank, ends in a number, or has a blank inside while there is one field alone.
 unfoldable pub isShifted : Text → Bool
 isShifted t = eqb (column 1 t) blank || (endsInNumber t
-    || (eqb (length t) (nameColumns + yearColumns + fieldColumns) && anyBlank (trimmed (nameOf t))))
+    || (eqb (length t) (headColumns + fieldColumns) && anyBlank (trimmed (nameOf t))))
 
 -- Code 23 of a line, which is a series by itself or not.
 unfoldable pub runsIn : Bool → Text → Bool

@@ -1,4 +1,4 @@
--- The lines of a file that are left (§ 16, the lines, 5 and 6): the header, taken out, and the strict lines of all others that
+-- The lines of a file that are left (§ 16, the header and the other lines): the header, taken out, and the strict lines of all others that
 -- are not blank.
 use mathlib.Core.Bool.{Bool, true, false, cond, _&&_, _||_, not}
 use mathlib.Core.List.{List, [], _∷_, _++_}

@@ -21,6 +21,10 @@ nameColumns = 8
 abbrev pub yearColumns : ℕ
 yearColumns = 4
 
+-- Both stand before the first field.
+abbrev pub headColumns : ℕ
+headColumns = nameColumns + yearColumns
+
 -- A field has 6.
 abbrev pub fieldColumns : ℕ
 fieldColumns = 6
@@ -79,11 +83,11 @@ fieldNumerals (suc n) t = withField (inColumns (take fieldColumns t)) (fieldNume
 
 -- How many fields there are after the name and the year.
 abbrev pub fieldCount : Text → ℕ
-fieldCount body = (length body - (nameColumns + yearColumns)) / fieldColumns
+fieldCount body = (length body - headColumns) / fieldColumns
 
 -- "one to ten fields of six columns" (§ 14), and no column over.
 unfoldable pub columnsFit : Text → Bool
-columnsFit body = eqb (length body) (nameColumns + yearColumns + fieldCount body * fieldColumns) && leb 1 (fieldCount body)
+columnsFit body = eqb (length body) (headColumns + fieldCount body * fieldColumns) && leb 1 (fieldCount body)
     && leb (fieldCount body) decade
 
 -- The line with this name, if the year and the fields are numbers.
@@ -98,7 +102,7 @@ lineInColumns body =
     cond (columnsFit body && isName (take nameColumns body))
     (withNumerals (take nameColumns body)
     (inColumns (take yearColumns (drop nameColumns body)))
-    (fieldNumerals (fieldCount body) (drop (nameColumns + yearColumns) body)))
+    (fieldNumerals (fieldCount body) (drop headColumns body)))
     none
 
 -- The line of what stands before byte 10, if that byte is there.

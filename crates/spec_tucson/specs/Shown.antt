@@ -1,4 +1,4 @@
--- A line as it is shown (§ 16, the lines): its end taken off, its tabs as blanks, no trailing blanks. A raw line is one of
+-- A line as it is shown (§ 16, a line as it is shown): its end taken off, its tabs as blanks, no trailing blanks. A raw line is one of
 -- `linesOf`: its bytes with the byte 10 that ends it; the last may lack that.
 use mathlib.Core.Bool.{Bool, true, false, cond, _&&_, _||_, not}
 use mathlib.Core.List.{List, [], _∷_, _++_, dropLast}

@@ -1,4 +1,4 @@
--- The strict line of a raw line (§ 16, the lines, 6): as it is shown, the data bank's site name taken off, ? for what is not
+-- The strict line of a raw line (§ 16, a strict line): as it is shown, the data bank's site name taken off, ? for what is not
 -- ASCII in its name; or code 11 or 22.
 use mathlib.Core.Bool.{Bool, true, false, cond, _&&_, _||_, not}
 use mathlib.Core.List.{List, [], _∷_, _++_, map}
@@ -11,7 +11,7 @@ use Rattle.base_outcome.specs.Outcome.{Outcome, answer, refuse, _then_, with-an
 use Rattle.base_text.specs.Bytes.{Text, newline, indexWhere}
 use Rattle.base_text.specs.Numeral.{isDigit}
 use Rattle.spec_tucson.specs.Columns.{blank}
-use Rattle.spec_tucson.specs.Line.{Line, nameColumns, yearColumns, fieldColumns, decade, lineInColumns}
+use Rattle.spec_tucson.specs.Line.{Line, nameColumns, headColumns, fieldColumns, decade, lineInColumns}
 use Rattle.spec_tucson.specs.Shown.{trimmed, shown, hasTab}
 
 -- ---- the data bank's site name
@@ -47,7 +47,7 @@ isSiteName t = leb 2 (lettersBefore t) && (leb (lettersBefore t) 4 && isSiteNumb
 
 -- The columns of a line with ten fields.
 abbrev pub lineColumns : ℕ
-lineColumns = nameColumns + yearColumns + decade * fieldColumns
+lineColumns = headColumns + decade * fieldColumns
 
 -- What stands behind these columns: blanks, one or more, and then a site name to the end.
 unfoldable pub hasSite : Text → Bool

@@ -16,8 +16,6 @@ const ABSENT: i64 = -1;
 // Four commas and the byte that ends a line.
 const SEPARATORS: usize = 5;
 
-const NEWLINE: u8 = 10;
-
 // How many bytes an index has: none for an absent ring.
 fn index_size(index: i64) -> usize
     ensures { λ r. ⌜ r ≡ length (indexText index) ⌝ }
@@ -87,7 +85,7 @@ fn put_end(out: &mut [u8], at: usize, index: i64) -> usize
 {
     let next = table_numbers::put_byte(out, at, b',');
     let end = put_index(out, next, index);
-    table_numbers::put_byte(out, end, NEWLINE)
+    table_numbers::put_byte(out, end, b'\n')
 }
 
 // A line behind its name.

@@ -1,5 +1,5 @@
 -- Laws of the table's numbers: the last digits of the definitions are those of base_text's laws, a whole number is its sign and the
--- digits of its size, and how many bytes a number with decimals has.
+-- digits of its size, and how many bytes a number has.
 use mathlib.Core.Path.{_≡_, refl, sym, ap, _∙_}
 use mathlib.Core.Bool.{true, false}
 use mathlib.Core.List.{[], _∷_, _++_}
@@ -13,7 +13,7 @@ use lib.Dec.{leb·suc-zero}
 use Rattle.base_text.specs.Bytes.{Text, minus}
 use Rattle.base_text.specs.Numeral.{digits, decimal}
 use Rattle.base_text.proofs.Decimal as text
-use Rattle.spec_table.specs.Decimals.{point, lastDigits, sign, withDecimals}
+use Rattle.spec_table.specs.Decimals.{point, lastDigits, sign, withDecimals, indexText}
 
 pub last-same : (i n : ℕ) → text.lastDigits i n ≡ lastDigits i n
 unfolding text.lastDigits lastDigits
@@ -54,6 +54,25 @@ decimals-length places z =
       length-append (digits (natAbs z / 10 ^ places)) (point ∷ lastDigits places (natAbs z)),
       last-length places (natAbs z),
     )
+
+-- ---- how many bytes a number below a power of ten has at most
+
+sign-short : (z : ℤ) → length (sign z) ≤ 1
+sign-short (pos n) = omega arith
+sign-short (negsuc n) = omega arith
+
+module _ (k : ℕ) where
+  pub whole-short : (z : ℤ) → natAbs z < 10 ^ suc k → length (decimal z) ≤ suc (suc k)
+  whole-short z h = omega (arith, decimal-length z, sign-short z, text.digits-length-le k (natAbs z) h)
+
+  pub decimals-short : (places : ℕ) (z : ℤ) → natAbs z / 10 ^ places < 10 ^ suc k → length (withDecimals places z) ≤ suc (suc (suc k)) + places
+  decimals-short places z h = omega (arith, decimals-length places z, sign-short z, text.digits-length-le k (natAbs z / 10 ^ places) h)
+
+  pub index-short : (z : ℤ) → natAbs z < 10 ^ suc k → length (indexText z) ≤ suc (suc k)
+  unfolding indexText
+  index-short (pos n) h = whole-short (pos n) h
+  index-short (negsuc zero) h = omega arith
+  index-short (negsuc (suc n)) h = whole-short (negsuc (suc n)) h
 
 -- ---- how many digits a number has, by powers of ten
 

@@ -28,7 +28,7 @@ use Rattle.theorems_clean.proofs.StrictLines.{strict-line, withEnds, st
 use Rattle.theorems_clean.proofs.WrittenForm.{columns-form}
 use Rattle.theorems_clean.proofs.ShownBytes.{ReadAs, strict-reads}
 use Rattle.theorems_clean.proofs.Sources.{Each, Source, kept-sources, sources-strict}
-use Rattle.theorems_clean.proofs.Lines.{numbers, closed-numbers}
+use Rattle.theorems_clean.proofs.Lines.{numbers, numbers-length, closed-numbers}
 
 -- ---- the last field's columns
 
@@ -112,10 +112,6 @@ lines-show unit rs (k ∷ ks) (suc i) l h =
     let r = lines-show unit rs ks i (omega arith) (h .1) in
     let p = r .1 .1 .1 in
     (r .0, (r .1 .0, (r .1 .1 .0, (later (p .0), (p .1 .0, (later (p .1 .1 .0), p .1 .1 .1))))))
-
-numbers-length : (ks : List Kept) → length (numbers ks) ≡ length ks
-numbers-length [] = refl
-numbers-length (k ∷ ks) = ap suc (numbers-length ks)
 
 pub answers-are-shown : AnswersAreShown
 answers-are-shown t header unit c e i l =

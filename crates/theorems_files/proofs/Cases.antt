@@ -4,14 +4,10 @@ use mathlib.Core.List.{List, [], _∷_, _++_}
 use mathlib.Core.Path.{_≡_, refl}
 use Prim.Native.Nat.{ℕ}
 use Prim.Native.String.{String}
-use Rattle.base_outcome.specs.Outcome.{Outcome, answer, refusal, capped}
-use Rattle.base_text.specs.Bytes.{Text, bytes, lines, cut, beginsWith, indexWhere}
-use Rattle.base_text.specs.Numeral.{allDigits, digitsValue, isNatural, numeral, digitsUpTo, digits, decimal}
-use Rattle.spec_tucson.specs.Columns.{inColumns, columns}
-use Rattle.spec_tucson.specs.Line.{linesOf, allPrintable, allBlank, isName, fieldNumerals, columnsFit, lineInColumns, lineOf}
-use Rattle.spec_tucson.specs.Line.{yearInDecade, withinDecade, isWidth, fieldsAllowed, goodLine}
-use Rattle.spec_tucson.specs.Series.{allHundredths, fromHundredths, closedBy}
-use Rattle.spec_tucson.specs.TextReading.{goesOn, yearFollows, lastField, closing, lineStep, readLine, readLines}
+use Rattle.base_outcome.specs.Outcome.{Outcome, answer, refusal}
+use Rattle.base_text.specs.Bytes.{Text, bytes, lines, indexWhere}
+use Rattle.base_text.specs.Numeral.{digitsUpTo, digits, decimal}
+use Rattle.spec_tucson.specs.Columns.{columns}
 use Rattle.spec_tucson.specs.FileText.{isMarked, unmarked, textOf, endsEarly, allPadding, isFault, faultLine, isWide, textFault}
 use Rattle.spec_tucson.specs.Shown.{unended, hasEnd, endsInReturn, withoutReturn, expanded, anyTab, trimmed, lineBytes, inItsColumns, shown}
 use Rattle.spec_tucson.specs.Shown.{isBlankLine, hasReturn, hasTab, hasTrailing}
@@ -25,20 +21,19 @@ use Rattle.spec_tucson.specs.CleanSeries.{isReclosed, reclosed, closedLines, st
 use Rattle.spec_tucson.specs.CleanNotes.{ahead, beginsAbsent, endsWith, hasLastWidth, isAbsentEnd, isLikeClosing, isOtherUnit, remarks}
 use Rattle.spec_tucson.specs.CleanNotes.{keptNotes, headerNotes, lineNotes, atLine, notesOf}
 use Rattle.spec_tucson.specs.CleanCall.{Cleaned, isHeaderOption, isUnitOption, checkedLines, markNote, allEnded, endNote, allNotes, cleanedBelow, cleanedFile, cleaned}
+use Rattle.spec_tucson.proofs.Computing.{reading}
 
 -- what a file is cleaned with
 unfoldable pub cleaning : Unit {0}
-unfolding bytes lines cut beginsWith indexWhere allDigits digitsValue isNatural numeral digitsUpTo digits decimal inColumns columns linesOf allPrintable allBlank
-    isName fieldNumerals columnsFit lineInColumns lineOf yearInDecade withinDecade isWidth fieldsAllowed goodLine allHundredths fromHundredths
-    closedBy goesOn yearFollows lastField closing lineStep readLine readLines capped isMarked unmarked textOf endsEarly allPadding isFault
-    faultLine isWide textFault unended hasEnd endsInReturn withoutReturn expanded anyTab trimmed lineBytes inItsColumns shown isBlankLine
-    hasReturn hasTab hasTrailing allLetters isSiteNumber isSiteName hasSite withoutSite anyHigh bytesMasked followOf charactersFrom isStrict
-    masked strictBytes shownFields strictLine nameBytes sameText column anyWord isCaption isHeaderLine unblank readsStrictly captions
+unfolding reading indexWhere digitsUpTo digits decimal columns isMarked unmarked textOf endsEarly allPadding isFault faultLine isWide
+    textFault unended hasEnd endsInReturn withoutReturn expanded anyTab trimmed lineBytes inItsColumns shown isBlankLine hasReturn hasTab
+    hasTrailing allLetters isSiteNumber isSiteName hasSite withoutSite anyHigh bytesMasked followOf charactersFrom isStrict masked
+    strictBytes shownFields strictLine nameBytes sameText column anyWord isCaption isHeaderLine unblank readsStrictly captions
     guessedHeader strictInHeader namedHeader headerOf isData keptLines continues fieldsOf digitsIn yearInName digitsBehind endsInNumber
     anyBlank isShifted runsIn yearFault closingOf isUnitFault closingAfter any999 seen999 closingFault seriesFault isReclosed reclosed
     closedLines strictText readKept ahead beginsAbsent endsWith hasLastWidth isAbsentEnd isLikeClosing isOtherUnit remarks keptNotes
-    headerNotes lineNotes atLine notesOf isHeaderOption isUnitOption checkedLines markNote allEnded endNote allNotes cleanedBelow cleanedFile
-    cleaned
+    headerNotes lineNotes atLine notesOf isHeaderOption isUnitOption checkedLines markNote allEnded endNote allNotes cleanedBelow
+    cleanedFile cleaned
 cleaning = tt
 
 -- The file becomes this text, with these lines and notes, or is refused; nothing is named or said.

@@ -24,7 +24,7 @@ use Rattle.spec_tucson.proofs.Kept.{kept-other, kept-data}
 use Rattle.tucson_strict.proofs.Strict.{strict-size}
 use Rattle.theorems_clean.proofs.Answers.{Answered, answered}
 use Rattle.theorems_clean.proofs.Sources.{kept-none, kept-sources, sources-strict}
-use Rattle.theorems_clean.proofs.Lines.{numbers, closed-numbers}
+use Rattle.theorems_clean.proofs.Lines.{numbers-length, closed-numbers}
 use Rattle.theorems_clean.proofs.StrictLines.{AllStrict, closed-strict}
 use Rattle.theorems_lost.proofs.Accounts.{otherNotes, notes-other, notes-data}
 use Rattle.theorems_room.specs.Room.{lineEnds, Within, RoomByLines, NeverShortByLines}
@@ -93,10 +93,6 @@ pub closed-count : (unit : ℕ) (ks : List Kept) → length (closedLines unit ks
 unfolding closedLines
 closed-count unit [] = refl
 closed-count unit (k ∷ ks) = ap suc (closed-count unit ks)
-
-pub numbers-count : (ks : List Kept) → length (numbers ks) ≡ length ks
-numbers-count [] = refl
-numbers-count (k ∷ ks) = ap suc (numbers-count ks)
 
 strict-bytes : (ks : List Kept) → AllStrict ks → length (strictText ks) ≤ 73 * length ks
 unfolding strictText
@@ -219,7 +215,7 @@ room-by-lines t header unit c e =
     let few = kept-count rs (a .last) 1 none (a .kept) (a .kept-are) in
     record {
       text = omega (arith, ap length (a .text-is), strict-bytes (closedLines unit (a .kept)) strict, closed-count unit (a .kept), few, text-lines t);
-      lines = omega (arith, ap length (a .lines-are), numbers-count (closedLines unit (a .kept)), closed-count unit (a .kept), few, text-lines t);
+      lines = omega (arith, ap length (a .lines-are), numbers-length (closedLines unit (a .kept)), closed-count unit (a .kept), few, text-lines t);
       notes = omega (arith, ap length (a .notes-are), all-count t unit (a .last) (a .kept), text-lines t);
     }
 

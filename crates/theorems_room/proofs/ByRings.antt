@@ -1,11 +1,11 @@
 -- The lines of a table: 18 bytes of a name, 20 of a year, 12 of a width, 12 of a value, 20 of an index, four commas and a byte 10.
 use mathlib.Core.Path.{_≡_, refl, sym, _∙_, ap, subst}
 use mathlib.Core.Bool.{Bool, true, false, cond, _&&_}
-use mathlib.Core.List.{List, [], _∷_, _++_}
-use Prim.Native.Nat.{ℕ, zero, suc, _+_, _*_, _/_, _^_, _<_, _≤_}
+use mathlib.Core.List.{List}
+use Prim.Native.Nat.{ℕ, zero, suc, _+_, _*_, _^_, _<_, _≤_}
 use native.Mathlib.Omega.{arith}
 use borrow.Author.Tests.{eqb-true, le-leb}
-use lib.Dec.{eqb, leb}
+use lib.Dec.{leb}
 use lib.IntN.{ℤ, pos, negsuc, natAbs, _+ℤ_, _*ℤ_}
 use lib.ListN.{length, getD, length-append}
 use Rattle.base_exact.specs.Tabulate.{tab}
@@ -14,73 +14,19 @@ use Rattle.base_exact.proofs.Floor.{nearest-abs}
 use Rattle.base_exact.proofs.Integer.{up, dn, bal-+, abs-parts, abs-mul, abs-add}
 use Rattle.base_outcome.specs.Outcome.{Outcome, answer, refuse}
 use Rattle.base_outcome.proofs.Outcome.{answer-not-refusal}
-use Rattle.base_text.specs.Bytes.{Text}
-use Rattle.base_text.specs.Numeral.{digits, decimal}
+use Rattle.base_text.specs.Numeral.{decimal}
 use Rattle.base_text.proofs.Decimal.{digits-length-le}
 use Rattle.spec_spline.specs.Reading.{Wood, woodIndex}
-use Rattle.spec_tucson.specs.Columns.{blank}
-use Rattle.spec_tucson.specs.Shown.{unlessTrailing, trimmed}
 use Rattle.spec_tucson.specs.Line.{nameColumns, isName}
-use Rattle.spec_table.specs.Decimals.{sign, withDecimals, widthText, millionths, curveText, indexText}
-use Rattle.spec_table.specs.RingLines.{quotationMark, withoutLeading, bareName, holdsQuoted, doubled, quotedName, nameText, numbersText, Ring, ringLine, linesOfRings, IndexedSeries, ringAt, ringLines}
+use Rattle.spec_table.specs.Decimals.{widthText, millionths, curveText}
+use Rattle.spec_table.specs.RingLines.{nameText, numbersText, Ring, ringLine, linesOfRings, IndexedSeries, ringAt, ringLines}
 use Rattle.spec_table.specs.RingLinesCall.{ringListsFit, ringLinesOutcome}
-use Rattle.table_numbers.proofs.Digits.{decimal-length, decimals-length}
+use Rattle.spec_table.proofs.Names.{name-short}
+use Rattle.table_numbers.proofs.Digits.{decimal-length, whole-short, decimals-short, index-short}
 use Rattle.table_line.proofs.Numbers.{numbers-length}
 use Rattle.theorems_room.specs.TableRoom.{CallTypes, RoomByRings, NeverShortByRings}
 
--- ---- a name
-
-leading-short : (t : Text) → length (withoutLeading t) ≤ length t
-unfolding withoutLeading
-leading-short [] = omega arith
-leading-short (c ∷ cs) = go (eqb c blank) (leading-short cs)
-  where
-    go : (b : Bool) → length (withoutLeading cs) ≤ length cs → length (cond b (withoutLeading cs) (c ∷ cs)) ≤ suc (length cs)
-    go true h = omega arith
-    go false h = omega arith
-
-trailing-short : (c : ℕ) (t : Text) → length (unlessTrailing c t) ≤ suc (length t)
-trailing-short c [] = go (eqb c blank)
-  where
-    go : (b : Bool) → length (cond b [] (c ∷ [])) ≤ 1
-    go true = omega arith
-    go false = omega arith
-trailing-short c (d ∷ ds) = omega arith
-
-pub trimmed-short : (t : Text) → length (trimmed t) ≤ length t
-unfolding trimmed
-trimmed-short [] = omega arith
-trimmed-short (c ∷ cs) = omega (arith, trailing-short c (trimmed cs), trimmed-short cs)
-
-doubled-short : (t : Text) → length (doubled t) ≤ 2 * length t
-unfolding doubled
-doubled-short [] = omega arith
-doubled-short (c ∷ cs) = go (eqb c quotationMark) (doubled-short cs)
-  where
-    go : (b : Bool) → length (doubled cs) ≤ 2 * length cs → length (cond b (c ∷ c ∷ doubled cs) (c ∷ doubled cs)) ≤ 2 * suc (length cs)
-    go true h = omega arith
-    go false h = omega arith
-
-quoted-short : (t : Text) → length (quotedName t) ≤ 2 * length t + 2
-unfolding quotedName
-quoted-short t = go (holdsQuoted t)
-  where
-    go : (b : Bool) → length (cond b (quotationMark ∷ (doubled t ++ (quotationMark ∷ []))) t) ≤ 2 * length t + 2
-    go true = omega (arith, doubled-short t, length-append (doubled t) (quotationMark ∷ []))
-    go false = omega arith
-
-name-short : (name : Text) → length name ≡ nameColumns → length (nameText name) ≤ 18
-unfolding bareName
-name-short name e = omega (arith, quoted-short (bareName name), trimmed-short (withoutLeading name), leading-short name)
-
 -- ---- numbers
-
-sign-short : (z : ℤ) → length (sign z) ≤ 1
-sign-short (pos n) = omega arith
-sign-short (negsuc n) = omega arith
-
-whole-short : (k : ℕ) (z : ℤ) → natAbs z < 10 ^ suc k → length (decimal z) ≤ suc (suc k)
-whole-short k z h = omega (arith, decimal-length z, sign-short z, digits-length-le k (natAbs z) h)
 
 year-short : (first : ℤ) (j : ℕ) → natAbs first ≤ 2 ^ 31 → j ≤ 2 ^ 64 → length (decimal (first +ℤ pos j)) ≤ 20
 year-short first j h l = go (first +ℤ pos j) (bal-+ first (pos j)) (abs-add first (pos j))
@@ -90,19 +36,13 @@ year-short first j h l = go (first +ℤ pos j) (bal-+ first (pos j)) (abs-add fi
     go (negsuc n) b a = omega (arith, whole-short 10 (negsuc n) (omega (arith, abs-parts first)))
 
 width-short : (z : ℤ) → natAbs z ≤ 2 ^ 31 → length (widthText z) ≤ 12
-width-short z h = omega (arith, decimals-length 3 z, sign-short z, digits-length-le 6 (natAbs z / 10 ^ 3) (omega arith))
+width-short z h = decimals-short 6 3 z (omega arith)
 
 curve-short : (v : ℤ) → natAbs v ≤ 2 ^ 31 → length (curveText v) ≤ 12
 unfolding millionths
 curve-short v h =
     let small = nearest-abs (v *ℤ pos 125) 32 8388608000 (omega arith) (omega (arith, abs-mul v (pos 125))) in
-    omega (arith, decimals-length 6 (millionths v), sign-short (millionths v), digits-length-le 3 (natAbs (millionths v) / 10 ^ 6) (omega (arith, small)))
-
-index-short : (z : ℤ) → natAbs z ≤ 2 ^ 63 → length (indexText z) ≤ 20
-unfolding indexText
-index-short (pos n) h = whole-short 18 (pos n) (omega arith)
-index-short (negsuc zero) h = omega arith
-index-short (negsuc (suc n)) h = whole-short 18 (negsuc (suc n)) (omega arith)
+    decimals-short 3 6 (millionths v) (omega (arith, small))
 
 -- ---- lines
 
@@ -135,7 +75,7 @@ room-by-rings wood s e c = rings-short (length (s .widths)) (ringAt wood s) shor
           year-short (s .firstYear) j (c .year) (omega (arith, c .rings)),
           width-short width (c .widths j),
           curve-short value (c .values (2 * j + woodIndex wood)),
-          index-short index (c .indices j),
+          index-short 18 index (omega (arith, c .indices j)),
         )
 
 pub never-short-by-rings : NeverShortByRings

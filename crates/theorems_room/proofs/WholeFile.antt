@@ -18,8 +18,9 @@ use Rattle.spec_tucson.specs.CleanNotes.{notesOf}
 use Rattle.spec_tucson.specs.CleanSeries.{closedLines}
 use Rattle.spec_tucson.specs.CleanCall.{Cleaned, cleaned, markNote, allEnded, endNote, atStart, allNotes}
 use Rattle.theorems_clean.proofs.Answers.{Answered, answered}
+use Rattle.theorems_clean.proofs.Lines.{numbers-length}
 use Rattle.theorems_room.specs.Room.{Within, RoomByBytes, NeverShortByBytes}
-use Rattle.theorems_room.proofs.ByLines.{closed-count, numbers-count, mark-count, room-stays}
+use Rattle.theorems_room.proofs.ByLines.{closed-count, mark-count, room-stays}
 use Rattle.theorems_room.proofs.ByBytes.{total, EndedBefore, sums}
 use Rattle.theorems_room.proofs.NoteBytes.{one, spare, notes-sum}
 
@@ -134,7 +135,7 @@ room-by-bytes t header unit c e =
     let s = sums rs unit (a .last) 1 none none (a .kept) (a .series) (lines-ended (textOf t)) (a .kept-are) (a .reads) in
     record {
       text = omega (arith, ap length (a .text-is), s .0, lines-total (textOf t), early-bytes t, marked-bytes t);
-      lines = omega (arith, ap length (a .lines-are), numbers-count (closedLines unit (a .kept)), closed-count unit (a .kept), s .1, lines-total (textOf t), early-bytes t, marked-bytes t);
+      lines = omega (arith, ap length (a .lines-are), numbers-length (closedLines unit (a .kept)), closed-count unit (a .kept), s .1, lines-total (textOf t), early-bytes t, marked-bytes t);
       notes = notes-room t header unit c a;
     }
 

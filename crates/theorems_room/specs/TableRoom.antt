@@ -17,13 +17,17 @@ pub record CallTypes (s : IndexedSeries) : Type 0 where
   pub values : (j : ℕ) → natAbs (getD (s .values) j (pos 0)) ≤ 2 ^ 31
   pub indices : (j : ℕ) → natAbs (getD (s .indices) j (pos 0)) ≤ 2 ^ 63
 
+-- The most bytes of a ring's line.
+abbrev pub bytesPerRing : ℕ
+bytesPerRing = 87
+
 abbrev pub RoomByRings : Type 0
 RoomByRings =
     (wood : Wood) (s : IndexedSeries) → length (s .name) ≡ nameColumns → CallTypes s →
-    length (ringLines wood s) ≤ 87 * length (s .widths)
+    length (ringLines wood s) ≤ bytesPerRing * length (s .widths)
 
 -- With such a buffer the call never ends with code 1.
 abbrev pub NeverShortByRings : Type 0
 NeverShortByRings =
-    (wood : Wood) (s : IndexedSeries) (room : ℕ) → CallTypes s → 87 * length (s .widths) ≤ room →
+    (wood : Wood) (s : IndexedSeries) (room : ℕ) → CallTypes s → bytesPerRing * length (s .widths) ≤ room →
     ringLinesOutcome wood s room ≡ refuse 1 0 → ⊥

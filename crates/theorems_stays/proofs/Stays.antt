@@ -24,7 +24,7 @@ use Rattle.spec_tucson.specs.Shown.{isBlankLine}
 use Rattle.spec_tucson.specs.StrictLine.{isHigh, anyHigh, isStrict, strictLine, Kept}
 use Rattle.spec_tucson.specs.KeptLines.{readsStrictly, isData, headerOf, keptLines}
 use Rattle.spec_tucson.specs.CleanSeries.{continues, fieldsIn, fieldsOf, unknownUnit, unitNotSaid, closingOf, isReclosed, reclosed, closedLines, withEnd, strictText}
-use Rattle.spec_tucson.proofs.Lines.{same-is}
+use Rattle.spec_tucson.proofs.Lines.{same-is, refute}
 use Rattle.spec_tucson.proofs.Kept.{kept-data}
 use Rattle.tucson_strict.proofs.Strict.{strict-ascii}
 use Rattle.theorems_tucson.proofs.GoodLines.{atEndOnly, AllAtEndOnly, lines-end}
@@ -88,10 +88,6 @@ step-known place b true l s e m = clash cc
 step-known place b false l s e m =
     let c = closes place b l s e .1 in
     refute (same (lastField (l .fields)) unknownUnit) (unknown-refused (lastField (l .fields)) (begunBy b l .widths ++ dropLast (l .fields)) (c .widths) (c .closed-by))
-  where
-    refute : (x : Bool) → (x ≡ true → ⊥) → x ≡ false
-    refute true h = absurd (h refl)
-    refute false h = refl
 
 read-strict : (place : ℕ) (b : Option Begun) (more : Bool) (t : Text) (s : Step) → atEndOnly t ≡ true → readLine place b more t ≡ answer s → Strict more t
 unfolding fieldsOf

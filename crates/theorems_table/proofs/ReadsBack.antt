@@ -4,8 +4,6 @@ use mathlib.Core.Bool.{Bool, true, false, cond, _&&_, not}
 use mathlib.Core.List.{List, [], _∷_, _++_, map, append-assoc}
 use mathlib.Core.Option.{Option, some, none}
 use Prim.Native.Nat.{ℕ, zero, suc}
-use native.Mathlib.Omega.{arith}
-use borrow.Author.Tests.{ne-eqb, leb-true}
 use lib.Dec.{eqb, leb}
 use lib.ListN.{length, take, drop}
 use lib.Seq.{take-at}
@@ -18,26 +16,19 @@ use Rattle.base_text.specs.Numeral.{decimal}
 use Rattle.base_text.proofs.Lacking.{lacks, lacks-first, byte}
 use Rattle.spec_spline.specs.Reading.{Wood}
 use Rattle.spec_tucson.specs.Columns.{blank}
-use Rattle.spec_tucson.specs.Line.{lastPrintable, nameColumns, allPrintable, allBlank, isName}
+use Rattle.spec_tucson.specs.Line.{nameColumns, allPrintable, allBlank, isName}
 use Rattle.spec_tucson.specs.Shown.{unlessTrailing, trimmed}
 use Rattle.spec_tucson.specs.WriteCall.{textAfter}
 use Rattle.spec_table.specs.Decimals.{widthText, curveText, indexText, millionths}
 use Rattle.spec_table.specs.RingLines.{withoutLeading, bareName, quotedName, nameText, numbersText, Ring, ringLine, linesOfRings, IndexedSeries, ringAt, ringsOf, ringLines}
 use Rattle.spec_table.specs.RingLinesCall.{ringListsFit, ringLinesOutcome}
+use Rattle.spec_tucson.proofs.Lines.{printable-lacks}
 use Rattle.theorems_table.specs.Reader.{Lines, outside, fieldFirst, linesFrom, wholeOf, partsOf, indexIn, Row, rowOf, rowsOf}
 use Rattle.theorems_table.specs.ReadsBack.{saidOf, LinesReadBack, WrittenLinesReadBack}
 use Rattle.theorems_table.proofs.Numbers.{whole-reads, three-read, six-read, index-reads}
 use Rattle.theorems_table.proofs.Fields.{special, textFirst, text-alone, plain-first, comma-next, end-next, name-first, whole-lacks, index-lacks, decimals-lack}
 
 -- ---- the name has no byte 10
-
-printable-lacks : (t : Text) → allPrintable t ≡ true → lacks (byte newline) t ≡ true
-unfolding allPrintable
-printable-lacks [] e = refl
-printable-lacks (c ∷ t) e =
-    let outer = and-true (leb blank c && leb c lastPrintable) (allPrintable t) e in
-    let inner = and-true (leb blank c) (leb c lastPrintable) (outer .0) in
-    ap₂ (λ (a b : Bool). not a && b) (ne-eqb c newline (λ q. omega (arith, leb-true blank c (inner .0)))) (printable-lacks t (outer .1))
 
 leading-lacks : (t : Text) → lacks (byte newline) t ≡ true → lacks (byte newline) (withoutLeading t) ≡ true
 unfolding withoutLeading

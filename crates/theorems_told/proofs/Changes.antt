@@ -34,6 +34,8 @@ use Rattle.theorems_told.specs.Told.{isChange}
 use Rattle.theorems_clean.proofs.StrictLines.{strict-line, reclosed-strict, no-control, lacks-byte}
 use Rattle.theorems_clean.proofs.ShownBytes.{strict-reads}
 use Rattle.theorems_clean.proofs.StrictShown.{no-return, no-tab-expands, strict-unended, strict-in-columns, strict-shown, strict-no-site, strict-fields-shown, strict-is-read}
+use Rattle.spec_tucson.proofs.Lines.{refute}
+use Rattle.spec_tucson.proofs.Kept.{ahead-some}
 
 -- ---- notes among others
 
@@ -87,14 +89,6 @@ behind-of i false m ns h x c n = h x c n
 -- what stands ahead of a series' last line
 abbrev lastAhead : ℕ → Kept → Ahead
 lastAhead unit k = record { count = 1; closing = closingAfter unit (lastField (fieldsOf (k .text))); lastFields = length (fieldsOf (k .text)) }
-
-ahead-some : (unit : ℕ) (k : Kept) (ks : List Kept) → 1 ≤ ahead unit (k ∷ ks) .count
-unfolding ahead
-ahead-some unit k ks = go (continues k ks)
-  where
-    go : (b : Bool) → 1 ≤ cond b (oneMore (ahead unit ks)) (lastAhead unit k) .count
-    go true = omega arith
-    go false = omega arith
 
 pub last-or-not : (unit : ℕ) (k : Kept) (ks : List Kept) → not (isLast (ahead unit (k ∷ ks))) ≡ continues k ks
 unfolding ahead continues
@@ -190,10 +184,6 @@ lacks-no-tab : (t : Text) → lacks (byte tab) t ≡ true → anyTab t ≡ false
 unfolding anyTab
 lacks-no-tab [] e = refl
 lacks-no-tab (c ∷ t) e = let both = lacks-first (byte tab) c t e in ap₂ _||_ (both .0) (lacks-no-tab t (both .1))
-
-refute : (x : Bool) → (x ≡ true → ⊥) → x ≡ false
-refute true h = absurd (h refl)
-refute false h = refl
 
 pub closing-known : (unit : ℕ) → same (closingOf unit) unknownUnit ≡ false
 unfolding closingOf

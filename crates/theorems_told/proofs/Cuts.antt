@@ -25,6 +25,7 @@ use Rattle.theorems_clean.specs.Places.{Noted, first, behind}
 use Rattle.theorems_told.specs.Told.{isCutting, CutsAreTold}
 use Rattle.theorems_clean.proofs.Answers.{answered}
 use Rattle.theorems_lost.proofs.Accounts.{otherNotes, notes-other, notes-data, noted-before, noted-behind}
+use Rattle.spec_tucson.proofs.Lines.{refute}
 use Rattle.theorems_told.proofs.Changes.{Among, it, rest, noted-among, noted-some}
 use Rattle.theorems_told.proofs.Told.{Paired, notes-paired, split}
 
@@ -121,10 +122,6 @@ cut-told (r ∷ s ∷ rs) unit h i b ks e = go (isData h i r) refl ks (λ c js. 
     go true d (k ∷ js) ih = let p = more _ _ (ih _ js) in (p .0, subst (Noted 2 (p .0)) (sym (notes-data unit h true i b r (s ∷ rs) k js d)) (p .1))
 
 -- ---- the text and its file
-
-refute : (x : Bool) → (x ≡ true → ⊥) → x ≡ false
-refute true h = absurd (h refl)
-refute false h = refl
 
 marked-some : (t : Text) → isMarked t ≡ true → 1 ≤ length t
 unfolding isMarked beginsWith

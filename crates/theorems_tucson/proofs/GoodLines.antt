@@ -15,12 +15,12 @@ use Rattle.base_exact.proofs.Decide.{and-true, true-not-false, clash}
 use Rattle.base_text.specs.Bytes.{Text, newline, Cut, cut, onFirst}
 use Rattle.base_text.proofs.Cutting.{joined, cut-joins}
 use Rattle.spec_tucson.specs.Columns.{inColumns}
-use Rattle.spec_tucson.specs.Line.{Line, nameColumns, yearColumns, fieldColumns, decade, linesOf, isName, fieldNumerals, fieldCount, columnsFit, withNumerals}
+use Rattle.spec_tucson.specs.Line.{Line, nameColumns, yearColumns, headColumns, fieldColumns, decade, linesOf, isName, fieldNumerals, fieldCount, columnsFit, withNumerals}
 use Rattle.spec_tucson.specs.Line.{lineInColumns, ofCut, lineOf, yearInDecade, withinDecade, same, fieldsAllowed, ifAllowed, goodLine}
 use Rattle.spec_tucson.specs.TextReading.{lastField}
 use Rattle.spec_tucson.proofs.Lines.{fields-count}
 use Rattle.theorems_tucson.proofs.Columns.{FitsColumns, columns-fit}
-use Rattle.theorems_tucson.proofs.Lines.{headColumns, lineBytes}
+use Rattle.theorems_tucson.proofs.Lines.{lineBytes}
 
 -- ---- a text in lines
 
@@ -101,14 +101,14 @@ body-inverted body l e = go (columnsFit body && isName (take nameColumns body)) 
   where
     go : (b : Bool) → (columnsFit body && isName (take nameColumns body)) ≡ b
         → cond b (withNumerals (take nameColumns body) (inColumns (take yearColumns (drop nameColumns body)))
-        (fieldNumerals (fieldCount body) (drop (nameColumns + yearColumns) body))) none ≡ some l → InBody body l
+        (fieldNumerals (fieldCount body) (drop headColumns body))) none ≡ some l → InBody body l
     go false w e = clash cc
     go true w e =
         let both = and-true (columnsFit body) (isName (take nameColumns body)) w in
         let outer = and-true (eqb (length body) (headColumns + fieldCount body * fieldColumns) && leb 1 (fieldCount body)) (leb (fieldCount body) decade) (both .0) in
         let inner = and-true (eqb (length body) (headColumns + fieldCount body * fieldColumns)) (leb 1 (fieldCount body)) (outer .0) in
         let parts = numerals-inverted (take nameColumns body) _ _ l e in
-        let count = fields-count (fieldCount body) (drop (nameColumns + yearColumns) body) (l .fields) (parts .2) in
+        let count = fields-count (fieldCount body) (drop headColumns body) (l .fields) (parts .2) in
         let whole = eqb-true (length body) (headColumns + fieldCount body * fieldColumns) (inner .0) in
         let least = leb-true 1 (fieldCount body) (inner .1) in
         record {

@@ -10,15 +10,14 @@ use native.Mathlib.Omega.{arith}
 use lib.IntN.{pos, negℤ, _+ℤ_}
 use lib.ListN.{length, take}
 use Rattle.base_outcome.specs.Outcome.{answer, refusal, capped}
-use Rattle.base_text.specs.Bytes.{Text, bytes, lines, cut, beginsWith}
-use Rattle.base_text.specs.Numeral.{allDigits, digitsValue, isNatural, numeral, digitsUpTo, digits, decimal}
-use Rattle.spec_tucson.specs.Columns.{inColumns, columns}
-use Rattle.spec_tucson.specs.Line.{Line, linesOf, allPrintable, allBlank, isName, fieldNumerals, columnsFit, lineInColumns, lineOf, yearInDecade, withinDecade, isWidth, fieldsAllowed, goodLine}
-use Rattle.spec_tucson.specs.Series.{Series, allHundredths, fromHundredths, closedBy}
-use Rattle.spec_tucson.specs.TextReading.{Begun, opened, goesOn, yearFollows, lastField, closing, lineStep, readLine, readLines, readText}
+use Rattle.base_text.specs.Bytes.{Text, bytes, lines, beginsWith}
+use Rattle.spec_tucson.specs.Line.{Line, allPrintable, allBlank, isName, yearInDecade, isWidth, goodLine}
+use Rattle.spec_tucson.specs.Series.{Series}
+use Rattle.spec_tucson.specs.TextReading.{Begun, opened, readLine, readText}
 use Rattle.spec_tucson.specs.ReadCall.{namesOf, yearsOf, countsOf, widthsOf, roomFor, readOutcome, filled, ReadEnd, readEnd}
-use Rattle.spec_tucson.specs.Writing.{inLines, linesFrom, seriesLines, fieldsText, lineText, linesText, written, yearsFit, allWidths, isWritable, firstUnwritable}
+use Rattle.spec_tucson.specs.Writing.{inLines, linesFrom, seriesLines, written, yearsFit, allWidths, isWritable, firstUnwritable}
 use Rattle.spec_tucson.specs.WriteCall.{total, listsFit, seriesOf, seriesOutcome, writeOutcome, textAfter, writeEnd}
+use Rattle.spec_tucson.proofs.Computing.{reading, writing}
 use Rattle.theorems_tucson.specs.RoundTrip.{Writable}
 use Rattle.theorems_tucson.specs.TucsonCells.{rewriteEnd}
 use Rattle.theorems_tucson.specs.Refusals.{ReadRefusal, WriteRefusal}
@@ -28,18 +27,9 @@ use Rattle.theorems_tucson.proofs.TucsonCells.{written-cells-read-back,
 use Rattle.theorems_tucson.proofs.Refusals.{read-refuses, write-refuses}
 use Rattle.theorems_tucson.proofs.FirstSeries.{next-year-by-line}
 
--- ---- what texts are read with, a line and all of them, and written with
-
-lineRead : Unit {0}
-unfolding bytes lines cut beginsWith allDigits digitsValue isNatural numeral inColumns linesOf allPrintable allBlank isName fieldNumerals columnsFit lineInColumns lineOf
-lineRead = tt
-
-linesRead : Unit {0}
-unfolding lineRead yearInDecade withinDecade isWidth fieldsAllowed goodLine allHundredths fromHundredths closedBy goesOn yearFollows lastField closing lineStep readLine readLines readText capped
-linesRead = tt
-
+-- what writable series are written with
 linesWritten : Unit {0}
-unfolding bytes lines beginsWith digitsUpTo digits decimal columns allPrintable allBlank isName yearInDecade isWidth inLines linesFrom seriesLines fieldsText lineText linesText written
+unfolding writing beginsWith allPrintable allBlank isName isWidth
 linesWritten = tt
 
 -- ---- two series, the first across the year 0
@@ -65,7 +55,7 @@ abbrev inThousandths : List Series
 inThousandths = record { name = bytes "ABC01   "; firstYear = pos 1908; widths = pos 1200 ∷ pos 0 ∷ pos 99990 ∷ [] } ∷ []
 
 measured-reads : readText measured ≡ answer inThousandths
-unfolding linesRead
+unfolding reading
 measured-reads = refl
 
 measured-writable : Writable inThousandths
@@ -101,7 +91,7 @@ abbrev readOne : ReadEnd
 readOne = readEnd measured (bytes "........") (pos 1 ∷ []) (2 ∷ []) (pos 3 ∷ pos 4 ∷ pos 5 ∷ pos 6 ∷ [])
 
 one-series : readOne .answers ≡ answer 1
-unfolding linesRead namesOf yearsOf countsOf widthsOf roomFor readOutcome filled
+unfolding reading namesOf yearsOf countsOf widthsOf roomFor readOutcome filled
 one-series = refl
 
 module _ (text : Text) (long : 50 ≤ length text) where
@@ -120,7 +110,7 @@ skipped : Text
 skipped = lines ("ABC01   1908     7     8" ∷ "ABC01   1920   999" ∷ [])
 
 skipped-refused : readEnd skipped [] [] [] [] .answers ≡ refusal 12 2
-unfolding linesRead skipped namesOf yearsOf countsOf widthsOf roomFor readOutcome filled
+unfolding reading skipped namesOf yearsOf countsOf widthsOf roomFor readOutcome filled
 skipped-refused = refl
 
 skipped-refusal : ReadRefusal skipped 12 2
@@ -142,7 +132,7 @@ abbrev begun : Begun
 begun = record { firstYear = pos 1908; widths = pos 120 ∷ pos 0 ∷ [] }
 
 first-line-reads : readLine 1 none true firstLine ≡ answer (opened begun)
-unfolding linesRead
+unfolding reading
 first-line-reads = refl
 
 nineteen-ten-by-the-line : (l : Line) × (goodLine false firstLine ≡ some l) × (pos 1910 ≡ l .year +ℤ pos (length (l .fields)))

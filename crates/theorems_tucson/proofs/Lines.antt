@@ -5,23 +5,20 @@ use mathlib.Core.List.{List, [], _∷_, _++_, append-assoc}
 use mathlib.Core.Option.{Option, some, none}
 use Prim.Native.Nat.{ℕ, _+_, _*_, _≤_}
 use native.Mathlib.Omega.{arith}
-use borrow.Author.Tests.{eq-eqb, ne-eqb, le-leb, leb-true, eqb-true, not-true}
-use lib.Dec.{eqb, leb}
+use borrow.Author.Tests.{eq-eqb, le-leb, eqb-true, not-true}
+use lib.Dec.{eqb}
 use lib.IntN.{ℤ}
 use lib.ListN.{length, take, drop, length-append}
 use lib.Seq.{take-at, drop-at, drop-drop}
 use Rattle.base_exact.proofs.Decide.{and-true, cond-true}
 use Rattle.base_text.specs.Bytes.{Text, newline, cut, onFirst}
 use Rattle.base_text.proofs.Lacking.{lacks, byte, lacks-append, lacks-first, cut-first}
-use Rattle.spec_tucson.specs.Columns.{blank, inColumns, columns}
-use Rattle.spec_tucson.specs.Line.{Line, nameColumns, yearColumns, fieldColumns, decade, lastPrintable, linesOf, allPrintable, allBlank, isName, withField}
+use Rattle.spec_tucson.specs.Columns.{inColumns, columns}
+use Rattle.spec_tucson.specs.Line.{Line, nameColumns, yearColumns, headColumns, fieldColumns, decade, linesOf, allPrintable, allBlank, isName, withField}
 use Rattle.spec_tucson.specs.Line.{fieldNumerals, fieldCount, columnsFit, withNumerals, lineInColumns, ofCut, lineOf}
 use Rattle.spec_tucson.specs.Writing.{fieldsText, lineText}
+use Rattle.spec_tucson.proofs.Lines.{printable-lacks}
 use Rattle.theorems_tucson.proofs.Columns.{FitsColumns, fits-length, fits-small, columns-read, columns-length, columns-lack}
-
--- The columns of a name and a year.
-abbrev pub headColumns : ℕ
-headColumns = nameColumns + yearColumns
 
 -- The bytes of a line with so many fields, byte 10 too.
 abbrev pub lineBytes : ℕ → ℕ
@@ -42,14 +39,6 @@ name-parts t e =
     let outer = and-true (eqb (length t) nameColumns && allPrintable t) (not (allBlank t)) e in
     let inner = and-true (eqb (length t) nameColumns) (allPrintable t) (outer .0) in
     (eqb-true (length t) nameColumns (inner .0), inner .1, not-true (allBlank t) (outer .1))
-
-printable-lacks : (t : Text) → allPrintable t ≡ true → lacks (byte newline) t ≡ true
-unfolding allPrintable
-printable-lacks [] e = refl
-printable-lacks (c ∷ cs) e =
-    let outer = and-true (leb blank c && leb c lastPrintable) (allPrintable cs) e in
-    let low = leb-true blank c (and-true (leb blank c) (leb c lastPrintable) (outer .0) .0) in
-    ap₂ (λ (x y : Bool). not x && y) (ne-eqb c newline (omega arith)) (printable-lacks cs (outer .1))
 
 -- ---- fields
 
@@ -139,7 +128,7 @@ module _ (l : Line) (f : LineHeld l) where
       ∙ ap inColumns (take-at (columns yearColumns (l .year)) (fieldsText (l .fields)) yearColumns year-length)
       ∙ columns-read yearColumns (l .year) (fits-small 3 (l .year) (omega arith) (f .dated))
 
-  fields-dropped : drop (nameColumns + yearColumns) (bodyText l) ≡ fieldsText (l .fields)
+  fields-dropped : drop headColumns (bodyText l) ≡ fieldsText (l .fields)
   fields-dropped =
       sym (drop-drop yearColumns nameColumns (bodyText l))
       ∙ ap (drop yearColumns) rest-dropped

@@ -5,14 +5,14 @@ use Prim.Native.Nat.{zero, suc, _≤_}
 use native.Mathlib.Omega.{arith}
 use lib.IntN.{pos}
 use lib.ListN.{length}
-use Rattle.base_outcome.specs.Outcome.{answer, capped}
+use Rattle.base_outcome.specs.Outcome.{answer}
 use Rattle.base_outcome.proofs.Outcome.{answer-unique}
-use Rattle.base_text.specs.Bytes.{Text, bytes, lines, cut, fieldsBetween, stripped, indexWhere}
-use Rattle.base_text.specs.Numeral.{allDigits, digitsValue, isNatural, numeral}
-use Rattle.spec_sheet.specs.SheetReading.{pair, entries, listOf, line, readLine, Lists, fiveLines, read}
-use Rattle.spec_rings.specs.Parts.{earlywoodLine, latewoodLine, linesEnd, sheetPart}
+use Rattle.base_text.specs.Bytes.{Text, bytes, lines}
+use Rattle.spec_sheet.specs.SheetReading.{Lists}
+use Rattle.spec_rings.specs.Parts.{earlywoodLine, latewoodLine, sheetPart}
 use Rattle.spec_rings.specs.Ready.{textLimit, sheetRead}
 use Rattle.spec_rings.specs.Rings.{rings}
+use Rattle.spec_rings.proofs.Computing.{reading}
 use Rattle.theorems_woods.specs.BothWoods.{Equal}
 use Rattle.theorems_woods.proofs.BothWoods.{both-woods-give-the-same}
 
@@ -37,8 +37,7 @@ sheet = record {
 }
 
 sheet-reads : sheetRead (sheetPart rest) ≡ answer sheet
-unfolding capped cut fieldsBetween stripped indexWhere allDigits digitsValue isNatural numeral pair entries listOf line readLine fiveLines read bytes lines
-    linesEnd sheetRead rest
+unfolding reading rest
 sheet-reads = refl
 
 equal-pairs : Equal (sheet .coefs)

@@ -1,6 +1,6 @@
 -- Columns by their numbers, words, and what the first 24 columns of a shown line say of a header line.
 use mathlib.Core.Path.{_≡_, refl, sym, _∙_, ap, ap₂}
-use mathlib.Core.Bool.{Bool, true, false, cond, _&&_, _||_, not, or-assoc}
+use mathlib.Core.Bool.{Bool, true, false, cond, _&&_, _||_, not, or-assoc, or-false as or-none}
 use mathlib.Core.List.{[], _∷_, _++_, append-nil}
 use Prim.Native.Nat.{ℕ, zero, suc, _+_, _-_, _<_, _≤_}
 use native.Mathlib.Omega.{arith}
@@ -18,22 +18,11 @@ use Rattle.spec_tucson.specs.Shown.{tabBlanks, expanded, shown}
 use Rattle.spec_tucson.specs.StrictLine.{isLetter, isHigh}
 use Rattle.spec_tucson.specs.KeptLines.{sameText, column, anyWord, isCaption, isHeaderLine}
 use Rattle.tucson_columns.specs.Machine.{cells, shownByte, LineShown, Expanded}
-use Rattle.tucson_columns.proofs.Shown.{expanded-step, expanded-none}
+use Rattle.tucson_columns.proofs.Shown.{expanded-step, expanded-none, take-few}
+use Rattle.spec_tucson.proofs.Lines.{same-lengths, column-at}
 use Rattle.tucson_caption.specs.Machine.{lastColumn, FrontTold, nameFront, captionBy}
 
 -- ---- a column
-take-few : (n : ℕ) (t : Text) → length (take n t) ≤ n
-take-few zero t = omega arith
-take-few (suc n) [] = omega arith
-take-few (suc n) (c ∷ t) = omega (arith, take-few n t)
-
-column-at : (n : ℕ) (t : Text) → column (suc n) t ≡ getD t n 0
-unfolding column
-column-at zero [] = refl
-column-at (suc n) [] = refl
-column-at zero (c ∷ t) = refl
-column-at (suc n) (c ∷ t) = column-at n t
-
 module _ (bytes : Text) (count n : ℕ) (some-column : 1 ≤ n) where
   column-by : column n (take count bytes) ≡ getD (take count bytes) (n - 1) 0
   column-by = let e : n ≡ suc (n - 1) = omega arith in ap (λ (m : ℕ). column m (take count bytes)) e ∙ column-at (n - 1) (take count bytes)
@@ -56,10 +45,6 @@ column-front (suc zero) (suc m) (c ∷ t) h = refl
 column-front (suc (suc n)) (suc m) (c ∷ t) h = column-front (suc n) m t (omega arith)
 
 -- ---- words
-or-nothing : (b : Bool) → (b || false) ≡ b
-or-nothing true = refl
-or-nothing false = refl
-
 words-append : (s t : Text) → anyWord (s ++ t) ≡ (anyWord s || anyWord t)
 unfolding anyWord
 words-append [] t = refl
@@ -76,7 +61,7 @@ byte-word n c = go (eqb c tab) refl
   where
     go : (b : Bool) → eqb c tab ≡ b → anyWord (cond b (replicate (tabBlanks n) blank) (c ∷ [])) ≡ (isLetter c || isHigh c)
     go true e = no-words (tabBlanks n) ∙ sym (ap (λ (x : ℕ). isLetter x || isHigh x) (eqb-true c tab e))
-    go false e = or-nothing (isLetter c || isHigh c)
+    go false e = or-none (isLetter c || isHigh c)
 
 pub words-shown : (n : ℕ) (t : Text) → anyWord (expanded n t) ≡ anyWord t
 unfolding anyWord
@@ -105,17 +90,6 @@ unfolding anyWord
 word-end text to = ap anyWord (slice-empty to text)
 
 -- ---- the same bytes
-same-others : (s t : Text) → (length s ≡ length t → ⊥) → sameText s t ≡ false
-unfolding sameText
-same-others [] [] h = absurd (h refl)
-same-others [] (d ∷ t) h = refl
-same-others (c ∷ s) [] h = refl
-same-others (c ∷ s) (d ∷ t) h = go (eqb c d) (same-others s t (λ e. h (ap suc e)))
-  where
-    go : (b : Bool) → sameText s t ≡ false → (b && sameText s t) ≡ false
-    go true e = e
-    go false e = refl
-
 same-begins : (s t : Text) → length s ≡ length t → sameText s t ≡ beginsWith s t
 unfolding sameText beginsWith
 same-begins [] [] e = refl
@@ -159,7 +133,7 @@ module _ (head : Text) (past : ℕ) (bytes : Text) (count : ℕ) (h : past ≤ l
   b-size = length-take-le b bytes (front-within count (length bytes) w)
 
   pub front-differs : (a ≡ b → ⊥) → sameText (take 6 (take past head)) (take 6 (take count bytes)) ≡ false
-  front-differs n = fronts ∙ same-others (take a head) (take b bytes) (λ e. n (sym a-size ∙ e ∙ b-size))
+  front-differs n = fronts ∙ same-lengths (take a head) (take b bytes) (λ e. n (sym a-size ∙ e ∙ b-size))
 
   pub front-begins : a ≡ b → sameText (take 6 (take past head)) (take 6 (take count bytes)) ≡ beginsWith (take a head) (take b bytes)
   front-begins e = fronts ∙ same-begins (take a head) (take b bytes) (a-size ∙ e ∙ sym b-size)

@@ -18,8 +18,6 @@ const COMMON: usize = 6;
 // The last column that is looked at by its number; a tab ends there.
 const LAST: usize = 24;
 
-const HIGH: u8 = 128;
-
 // The first columns of what is shown of a line, at the front of an array: how many there are, up to 24.
 fn front(text: &[u8], from: usize, end: usize, bytes: &mut [u8]) -> usize
     requires { ⌜ FrontAsks (now text) from end (now bytes) ⌝ }
@@ -40,7 +38,7 @@ fn any_word(text: &[u8], from: usize, to: usize) -> bool
         if tucson_site::is_letter(text[i]) {
             return true;
         }
-        if text[i] >= HIGH {
+        if text[i] >= tucson_columns::HIGH {
             return true;
         }
         i += 1;

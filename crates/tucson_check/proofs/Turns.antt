@@ -19,9 +19,9 @@ use Rattle.spec_tucson.specs.StrictLine.{Kept}
 use Rattle.spec_tucson.specs.KeptLines.{isData, keptLines}
 use Rattle.spec_tucson.specs.CleanSeries.{yearFault, Fault, seriesFault, refuseFault, closedLines, readKept}
 use Rattle.spec_tucson.specs.CleanCall.{checkedLines}
-use Rattle.tucson_lines.specs.Machine.{LineEnd}
+use Rattle.tucson_lines.specs.Machine.{LineEnd, lineFound}
 use Rattle.tucson_lines.proofs.Lines.{end-within, lines-step}
-use Rattle.tucson_judge.specs.Judging.{lineFound, faultAt, markFound, refusedOr, readerTold, pick, verdict}
+use Rattle.tucson_judge.specs.Judging.{faultAt, markFound, refusedOr, readerTold, pick, verdict}
 use Rattle.tucson_check.specs.Holding.{unheld, judging, HoldsBy, Holds, HeldBytes, taking}
 use Rattle.tucson_check.specs.declared.Held.{Held}
 use Rattle.tucson_check.proofs.HeldLines.{holds-same}

@@ -7,7 +7,7 @@ ghost use Prim.Native.Nat.{_+_, _-_, _≤_};
 ghost use lib.Seq.{slice};
 ghost use Rattle.base_outcome.specs.Outcome.{_then_};
 ghost use Rattle.base_outcome.specs.Machine.{legality};
-ghost use Rattle.spec_tucson.specs.Line.{linesOf};
+ghost use Rattle.spec_tucson.specs.Line.{nameColumns, linesOf};
 ghost use Rattle.spec_tucson.specs.KeptLines.{isData, keptLines};
 ghost use Rattle.spec_tucson.specs.CleanCall.{checkedLines};
 ghost use Rattle.tucson_lines.specs.Machine.{LineEnd};
@@ -43,8 +43,6 @@ pub enum Taken {
     Held(Held),
     Refused(u8),
 }
-
-const NAME: usize = limits::NAME_COLUMNS;
 
 // Nothing is held, and nothing was found.
 fn nothing() -> Held
@@ -87,10 +85,10 @@ pub fn is_data(body: &[u8], header: usize, number: usize, from: usize, end: usiz
 
 // How many of the bytes that are shown stand in the columns of the name.
 fn name_width(shown: usize, size: usize) -> usize
-    requires { ⌜ 8 ≤ size ⌝ }
-    ensures { λ r. ⌜ r ≡ shown + 8 - size ⌝ }
+    requires { ⌜ nameColumns ≤ size ⌝ }
+    ensures { λ r. ⌜ r ≡ shown + nameColumns - size ⌝ }
 {
-    let behind = size - NAME;
+    let behind = size - limits::NAME_COLUMNS;
     if shown < behind {
         return 0;
     }
@@ -131,7 +129,7 @@ fn follow(
             judged: judged,
         });
     }
-    let goes = tucson_names::same_text(&old[..NAME], &line[..NAME]);
+    let goes = tucson_names::same_text(&old[..limits::NAME_COLUMNS], &line[..limits::NAME_COLUMNS]);
     if goes {
         if is_misnamed(shown, line, old_shown, old) {
             return Next::Misnamed;
@@ -152,10 +150,10 @@ fn follow(
 fn take_up(
     strict: Strict,
     held: Held,
-    old_shown: [u8; 96],
-    old: [u8; 96],
-    shown: [u8; 96],
-    line: [u8; 96],
+    old_shown: [u8; tucson_columns::CELLS],
+    old: [u8; tucson_columns::CELLS],
+    shown: [u8; tucson_columns::CELLS],
+    line: [u8; tucson_columns::CELLS],
     number: usize,
     unit: u32,
 ) -> Taken
@@ -208,8 +206,8 @@ fn finish(h: Held, old: &[u8], unit: u32) -> Legality
 pub fn check(body: &[u8], header: usize, unit: u32) -> Legality
     ensures { λ r. ⌜ r ≡ legality (keptLines header 1 none (linesOf (now (body .entry))) then checkedLines unit) ⌝ }
 {
-    let mut old_shown = [0; 96];
-    let mut old = [0; 96];
+    let mut old_shown = [0; tucson_columns::CELLS];
+    let mut old = [0; tucson_columns::CELLS];
     let mut held = nothing();
     let mut from = 0;
     let mut number = 1;
@@ -220,8 +218,8 @@ pub fn check(body: &[u8], header: usize, unit: u32) -> Legality
             number += 1;
             continue;
         }
-        let mut shown = [0; 96];
-        let mut line = [0; 96];
+        let mut shown = [0; tucson_columns::CELLS];
+        let mut line = [0; tucson_columns::CELLS];
         let strict = tucson_shown::strict_line(body, from, end, &mut shown, &mut line);
         let taken = take_up(strict, held, old_shown, old, shown, line, number, unit);
         match taken {

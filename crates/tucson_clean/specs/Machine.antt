@@ -15,6 +15,7 @@ use Rattle.spec_tucson.specs.StrictLine.{Kept}
 use Rattle.spec_tucson.specs.KeptLines.{keptLines}
 use Rattle.spec_tucson.specs.CleanSeries.{closedLines, strictText}
 use Rattle.spec_tucson.specs.CleanCall.{Cleaned, allEnded, allNotes, ifRoom, Counts, countsOf, laid}
+use Rattle.tucson_notes.specs.Machine.{bytesPerLine, cellsPerLine, cellsPerFile}
 use Rattle.tucson_walk.specs.declared.Walked.{Walked}
 use Rattle.tucson_walk.specs.Walking.{numbersOf}
 use Rattle.tucson_clean.specs.declared.Tail.{Tail}
@@ -41,7 +42,7 @@ pub record BodyAt (t : Text) (from stop : ℕ) : Type 0 where
 
 -- How many bytes, numbers of lines and cells of notes are enough for a text of so many lines.
 abbrev pub ample : ℕ → ℕ × (ℕ × ℕ)
-ample count = (79 * (count + 1), (count + 1, 22 * (count + 1) + 4))
+ample count = (bytesPerLine * (count + 1), (count + 1, cellsPerLine * (count + 1) + cellsPerFile))
 
 -- The buffers have so many.
 pub record RoomFor (count textLength linesLength notesLength : ℕ) : Type 0 where

@@ -12,6 +12,7 @@ use base_outcome::Found;
 use base_outcome::Legality;
 use base_outcome::codes;
 use tucson_header::HeaderFound;
+use tucson_lines::units;
 use tucson_notes::kinds;
 use tucson_walk::Walked;
 
@@ -27,23 +28,10 @@ pub enum Cleaned {
     Refused(u8, u32),
 }
 
-// One more than the lines of a header that can be named.
-const NO_HEADER_NAMED: u32 = 100;
-
-const UNIT_NOT_SAID: u32 = 0;
-
-const HUNDREDTHS_SAID: u32 = 100;
-
-const THOUSANDTHS_SAID: u32 = 1000;
+// What stands for no named header.
+const NO_HEADER_NAMED: u32 = tucson_header::HEADER_LIMIT + 1;
 
 const FILE_LIMIT: usize = 4294967295;
-
-// The most bytes that a line takes in the strict text, the most cells of its notes, and of those of the whole file.
-const LINE_BYTES: usize = 79;
-
-const LINE_CELLS: usize = 22;
-
-const FILE_CELLS: usize = 4;
 
 // The lines of a text, counted by their ends.
 fn count_lines(body: &[u8]) -> Tail
@@ -126,13 +114,13 @@ fn is_ample(count: usize, bytes: usize, lines: usize, cells: usize) -> bool
     requires { ⌜ count < 2 ^ 32 ⌝ }
     ensures { λ r. ⌜ AmpleTold count bytes lines cells r ⌝ }
 {
-    if bytes < LINE_BYTES * (count + 1) {
+    if bytes < tucson_notes::BYTES_PER_LINE * (count + 1) {
         return false;
     }
     if lines < count + 1 {
         return false;
     }
-    cells >= LINE_CELLS * (count + 1) + FILE_CELLS
+    cells >= tucson_notes::CELLS_PER_LINE * (count + 1) + tucson_notes::CELLS_PER_FILE
 }
 
 // Fills the buffers, if there is room for all, which is measured first.
@@ -238,13 +226,13 @@ fn clean_text(
 fn is_unit(unit: u32) -> bool
     ensures { λ r. ⌜ r ≡ isUnitOption unit ⌝ }
 {
-    if unit == UNIT_NOT_SAID {
+    if unit == units::UNIT_NOT_SAID {
         return true;
     }
-    if unit == HUNDREDTHS_SAID {
+    if unit == units::HUNDREDTHS_SAID {
         return true;
     }
-    unit == THOUSANDTHS_SAID
+    unit == units::THOUSANDTHS_SAID
 }
 
 // What is made of a file that is not too long.

@@ -16,10 +16,16 @@ use Rattle.base_text.proofs.Slice.{slice-take, slice-step}
 use Rattle.base_text.proofs.Cutting.{cut-none}
 use Rattle.spec_tucson.specs.Columns.{blank}
 use Rattle.spec_tucson.specs.FileText.{tab, carriageReturn}
-use Rattle.spec_tucson.specs.Shown.{beforeCut, unended, endsInReturn, withoutReturn, tabBlanks, expanded, unlessTrailing, trimmed, lineBytes, hasReturn}
+use Rattle.spec_tucson.specs.Shown.{beforeCut, unended, endsInReturn, withoutReturn, tabBlanks, expanded, unlessTrailing, trimmed, lineBytes, hasReturn, anyTab}
 use Rattle.tucson_lines.specs.Machine.{LineEnd}
 use Rattle.tucson_lines.proofs.Lines.{cut-line, end-is, line-bytes, end-within}
 use Rattle.tucson_columns.specs.Machine.{shownByte, isGap}
+
+-- no more is taken than is asked for
+pub take-few : (n : ℕ) (t : Text) → length (take n t) ≤ n
+take-few zero t = omega arith
+take-few (suc n) [] = omega arith
+take-few (suc n) (c ∷ t) = omega (arith, take-few n t)
 
 -- ---- parts of a text
 pub slice-snoc : (f i : ℕ) (t : Text) → f ≤ i → i < length t → slice f (suc i) t ≡ slice f i t ++ (getD t i 0 ∷ [])
@@ -49,6 +55,15 @@ expanded-step n c cs = go (eqb c tab)
 pub expanded-none : (n : ℕ) → expanded n [] ≡ []
 unfolding expanded
 expanded-none n = refl
+
+-- bytes without a tab are shown as they stand
+pub expanded-plain : (n : ℕ) (t : Text) → anyTab t ≡ false → expanded n t ≡ t
+unfolding expanded anyTab
+expanded-plain n [] e = refl
+expanded-plain n (c ∷ cs) e =
+    let both = or-false (eqb c tab) (anyTab cs) e in
+    ap (λ (b : Bool). cond b (replicate (tabBlanks n) blank ++ expanded (n + tabBlanks n) cs) (c ∷ expanded (suc n) cs)) (both .0)
+    ∙ ap (λ (t : Text). c ∷ t) (expanded-plain (suc n) cs (both .1))
 
 pub expanded-one : (n c : ℕ) → expanded n (c ∷ []) ≡ shownByte n c
 expanded-one n c =

@@ -15,9 +15,8 @@ pub const CELLS: usize = 96;
 // A tab goes on to a column that is a multiple of this.
 const TAB_WIDTH: usize = 8;
 
-const TAB: u8 = 9;
-
-const RETURN: u8 = 13;
+// The first byte that is not ASCII.
+pub const HIGH: u8 = 128;
 
 // The index of a text up to which all is put, and how many columns there are.
 pub struct Columns {
@@ -33,7 +32,7 @@ pub fn line_stop(text: &[u8], from: usize, end: usize) -> usize
     if from == end {
         return end;
     }
-    if text[end - 1] == RETURN {
+    if text[end - 1] == b'\r' {
         return end - 1;
     }
     end
@@ -46,7 +45,7 @@ pub fn is_gap(byte: u8) -> bool
     if byte == b' ' {
         return true;
     }
-    byte == TAB
+    byte == b'\t'
 }
 
 // Where the part ends without trailing blanks and tabs.
@@ -92,7 +91,7 @@ fn put_byte(bytes: &mut [u8], n: usize, byte: u8) -> usize
     requires { ⌜ Room (now bytes) n ⌝ }
     ensures { λ r. ⌜ Put n (now (bytes .entry)) (shownByte n byte) (now (bytes .exit)) r ⌝ }
 {
-    if byte == TAB {
+    if byte == b'\t' {
         return put_blanks(bytes, n);
     }
     bytes[n] = byte;

@@ -1,6 +1,6 @@
 -- A strict line's numbers: what each field adds to what is kept of those before it, and where they stand in the line.
 use mathlib.Core.Path.{_≡_, refl, sym, _∙_, ap, ap₂}
-use mathlib.Core.Bool.{Bool, true, false, cond, _&&_, _||_, not, and-assoc, and-true as and-true-right}
+use mathlib.Core.Bool.{Bool, true, false, cond, _&&_, _||_, not, and-assoc, and-true as and-true-right, or-assoc, or-false as or-none}
 use mathlib.Core.List.{List, [], _∷_, _++_, dropLast}
 use mathlib.Core.Option.{Option, some, none}
 use Prim.Native.Nat.{ℕ, zero, suc, _+_, _*_, _-_, _/_, _<_, _≤_}
@@ -48,10 +48,6 @@ made none r ws e = clash cc
 made (some z) none ws e = clash cc
 made (some z) (some vs) ws e = record { first = z; later = vs; first-is = refl; later-are = refl; all = cc }
 
-or-assoc : (a b c : Bool) → (a || (b || c)) ≡ ((a || b) || c)
-or-assoc true b c = refl
-or-assoc false b c = refl
-
 module _ (t : Text) (at left : ℕ) (ws : List ℤ) (widths small nine : Bool) (rest : Rest t at left ws widths small nine)
     (more : 1 ≤ left) (within : at + fieldColumns ≤ length t) where
   here : Made (inColumns (slice at (at + fieldColumns) t)) (fieldNumerals (left - 1) (slice (at + fieldColumns) (length t) t)) (rest .later)
@@ -75,7 +71,7 @@ module _ (t : Text) (at left : ℕ) (ws : List ℤ) (widths small nine : Bool) (
         small-are =
             rest .small-are ∙ ap (λ (fs : List ℤ). small && allHundredths fs) (sym all)
             ∙ sym (and-assoc small (leZ z (pos hundredthsLimit)) (allHundredths (m .later)));
-        nine-is = rest .nine-is ∙ ap (λ (fs : List ℤ). nine || any999 fs) (sym all) ∙ or-assoc nine (same z hundredths) (any999 (m .later));
+        nine-is = rest .nine-is ∙ ap (λ (fs : List ℤ). nine || any999 fs) (sym all) ∙ sym (or-assoc nine (same z hundredths) (any999 (m .later)));
       }
 
 pub same-rest : {t : Text} {at left : ℕ} {ws : List ℤ} {widths small nine v r n : Bool} → v ≡ widths → r ≡ small → n ≡ nine
@@ -84,10 +80,6 @@ same-rest {t} {at} {left} {ws} e f g h = rw (e, f, g) h
 
 pub rest-all : (t : Text) (n : ℕ) (ws : List ℤ) → fieldNumerals n (slice 12 (length t) t) ≡ some ws → Rest t 12 n ws true true false
 rest-all t n ws e = record { later = ws; are = e; widths-are = refl; small-are = refl; nine-is = refl }
-
-or-none : (b : Bool) → (b || false) ≡ b
-or-none true = refl
-or-none false = refl
 
 pub rest-over : (t : Text) (at : ℕ) (ws : List ℤ) (widths small nine : Bool) → Rest t at 0 ws widths small nine
     → (allWidths ws ≡ widths) × ((allHundredths ws ≡ small) × (any999 ws ≡ nine))

@@ -1,11 +1,14 @@
 // The numbers of a strict line: its year, its last field, and what is to be known of the fields before that.
-ghost use mathlib.Core.Bool.{true, _||_};
+ghost use mathlib.Core.Bool.{true};
 ghost use mathlib.Core.Path.{_≡_};
 ghost use Prim.Native.Nat.{_+_, _*_, _≤_};
 ghost use lib.ListN.{length};
+ghost use Rattle.spec_tucson.specs.Line.{headColumns, fieldColumns};
 ghost use Rattle.spec_tucson.specs.StrictLine.{isStrict};
 ghost use Rattle.tucson_fields.specs.Machine.{FrontTold, FactsOf};
+use base_outcome::limits;
 use base_text::numeral::Field;
+use tucson_lines::units;
 
 // The year, how many fields there are, whether the fields but the last are widths, whether all of them are at most 9,999, whether 999
 // is one of them, and the last field.
@@ -25,29 +28,18 @@ struct FrontFacts {
     nine: bool,
 }
 
-const HUNDREDTHS: i32 = 999;
-
-pub fn either(a: bool, b: bool) -> bool
-    ensures { λ r. ⌜ r ≡ (a || b) ⌝ }
-{
-    if a {
-        return true;
-    }
-    b
-}
-
 // Looks through the first n fields.
 fn fields_before(line: &[u8], n: usize) -> FrontFacts
-    requires { ⌜ 12 + n * 6 ≤ length (now line) ⌝ }
+    requires { ⌜ headColumns + n * fieldColumns ≤ length (now line) ⌝ }
     ensures { λ r. ⌜ FrontTold (now (line .entry)) n r ⌝ }
 {
     let mut widths = true;
     let mut small = true;
     let mut nine = false;
-    let mut at = tucson_lines::HEAD;
+    let mut at = limits::HEAD_COLUMNS;
     let mut left = n;
     while left > 0 {
-        let field = tucson_lines::numeral(line, at, at + tucson_lines::FIELD);
+        let field = tucson_lines::numeral(line, at, at + limits::FIELD_COLUMNS);
         match field {
             Field::Bad => {
                 return FrontFacts {
@@ -58,9 +50,9 @@ fn fields_before(line: &[u8], n: usize) -> FrontFacts
             }
             Field::Numeral(z) => {
                 widths = tucson_lines::both(widths, tucson_lines::is_width(z));
-                small = tucson_lines::both(small, z <= tucson_lines::HUNDREDTHS_LIMIT);
-                nine = either(nine, tucson_lines::same(z, HUNDREDTHS));
-                at += tucson_lines::FIELD;
+                small = tucson_lines::both(small, z <= units::HUNDREDTHS_LIMIT);
+                nine = tucson_lines::either(nine, tucson_lines::same(z, units::HUNDREDTHS));
+                at += limits::FIELD_COLUMNS;
                 left -= 1;
             }
         }
@@ -90,12 +82,15 @@ pub fn numbers(line: &[u8]) -> Facts
     ensures { λ r. ⌜ FactsOf (now (line .entry)) r ⌝ }
 {
     let end = line.len();
-    let n = (end - tucson_lines::HEAD) / tucson_lines::FIELD;
-    let Field::Numeral(year) = tucson_lines::numeral(line, tucson_lines::NAME, tucson_lines::HEAD)
-    else {
+    let n = (end - limits::HEAD_COLUMNS) / limits::FIELD_COLUMNS;
+    let Field::Numeral(year) = tucson_lines::numeral(
+        line,
+        limits::NAME_COLUMNS,
+        limits::HEAD_COLUMNS,
+    ) else {
         return nothing();
     };
-    let Field::Numeral(last) = tucson_lines::numeral(line, end - tucson_lines::FIELD, end) else {
+    let Field::Numeral(last) = tucson_lines::numeral(line, end - limits::FIELD_COLUMNS, end) else {
         return nothing();
     };
     let others = fields_before(line, n - 1);

@@ -1,5 +1,4 @@
 // The text of a laboratory's file: where it begins and ends, and the first byte that no text has.
-ghost use mathlib.Core.Bool.{_||_};
 ghost use mathlib.Core.Path.{_≡_};
 ghost use Prim.Native.Nat.{_+_, _<_, _≤_};
 ghost use lib.ListN.{length, drop};
@@ -12,15 +11,7 @@ ghost use Rattle.tucson_file.specs.Machine.{faultAt, isSpecial, anySpeci
 ghost use Rattle.tucson_file.specs.Machine.{endOf, endCount, lastEnds, EndsAsk, EndsTold};
 use base_outcome::Found;
 
-const TAB: u8 = 9;
-
-const NEWLINE: u8 = 10;
-
-const RETURN: u8 = 13;
-
 pub const SUBSTITUTE: u8 = 26;
-
-const BLANK: u8 = 32;
 
 // The bytes of a text whose ends of lines are counted at once.
 const BLOCK: usize = 240;
@@ -35,16 +26,16 @@ fn is_padding(byte: u8) -> bool
     if byte == SUBSTITUTE {
         return true;
     }
-    if byte == BLANK {
+    if byte == b' ' {
         return true;
     }
-    if byte == TAB {
+    if byte == b'\t' {
         return true;
     }
-    if byte == NEWLINE {
+    if byte == b'\n' {
         return true;
     }
-    byte == RETURN
+    byte == b'\r'
 }
 
 // Whether all bytes from the index on are such bytes.
@@ -74,7 +65,7 @@ fn is_odd(text: &[u8], at: usize) -> bool
     if base_text::fields::begins(text, at, text.len(), b"\xef\xbb\xbf") {
         return true;
     }
-    if byte == RETURN {
+    if byte == b'\r' {
         return !base_text::fields::begins(text, at + 1, text.len(), b"\n");
     }
     false
@@ -85,7 +76,7 @@ fn is_fault(text: &[u8], at: usize) -> bool
     requires { ⌜ at < length (now text) ⌝ }
     ensures { λ r. ⌜ r ≡ faultAt at (now (text .entry)) ⌝ }
 {
-    if text[at] > RETURN {
+    if text[at] > b'\r' {
         if text[at] < MARK {
             return false;
         }
@@ -93,21 +84,12 @@ fn is_fault(text: &[u8], at: usize) -> bool
     is_odd(text, at)
 }
 
-fn either(a: bool, b: bool) -> bool
-    ensures { λ r. ⌜ r ≡ (a || b) ⌝ }
-{
-    if a {
-        return true;
-    }
-    b
-}
-
 // Whether a byte can be at fault, or ends a text.
 fn is_special(byte: u8) -> bool
     ensures { λ r. ⌜ r ≡ isSpecial byte ⌝ }
 {
-    let low = either(byte == 0, byte == RETURN);
-    either(low, either(byte == SUBSTITUTE, byte >= MARK))
+    let low = tucson_lines::either(byte == 0, byte == b'\r');
+    tucson_lines::either(low, tucson_lines::either(byte == SUBSTITUTE, byte >= MARK))
 }
 
 // Whether there is such a byte from the index on; most files have none. All bytes are looked at, since many at once take fewer
@@ -119,7 +101,7 @@ fn any_special(text: &[u8], from: usize) -> bool
     let mut any = false;
     let mut i = from;
     while i < text.len() {
-        any = either(any, is_special(text[i]));
+        any = tucson_lines::either(any, is_special(text[i]));
         i += 1;
     }
     any
@@ -154,7 +136,7 @@ fn line_after(byte: u8, line: usize) -> usize
     requires { ⌜ line < 18446744073709551615 ⌝ }
     ensures { λ r. ⌜ r ≡ FileText.lineAfter byte line ⌝ }
 {
-    if byte == NEWLINE {
+    if byte == b'\n' {
         return line + 1;
     }
     line
@@ -216,7 +198,7 @@ pub fn stop(text: &[u8], from: usize) -> usize
 fn is_end(byte: u8) -> u8
     ensures { λ r. ⌜ r ≡ endOf byte ⌝ }
 {
-    if byte == NEWLINE {
+    if byte == b'\n' {
         return 1;
     }
     0
@@ -257,5 +239,5 @@ pub fn is_ended(text: &[u8]) -> bool
     if text.len() == 0 {
         return true;
     }
-    text[text.len() - 1] == NEWLINE
+    text[text.len() - 1] == b'\n'
 }

@@ -16,9 +16,10 @@ use Rattle.base_text.specs.Bytes.{Text}
 use Rattle.spec_tucson.specs.Line.{linesOf}
 use Rattle.spec_tucson.specs.Shown.{isBlankLine}
 use Rattle.spec_tucson.specs.KeptLines.{Numbered, numbered, unblank, readsStrictly, captions, guessedHeader, strictInHeader, unlessStrict, namedHeader}
-use Rattle.tucson_lines.specs.Machine.{LineEnd}
+use Rattle.tucson_lines.specs.Machine.{LineEnd, lineFound}
 use Rattle.tucson_lines.proofs.Lines.{end-within, lines-step}
-use Rattle.tucson_header.specs.Machine.{headerAnswer, lineFound}
+use Rattle.tucson_lines.proofs.Found.{line-some}
+use Rattle.tucson_header.specs.Machine.{headerAnswer}
 use Rattle.tucson_header.specs.declared.HeaderFound.the-variants as header-cases
 
 -- ---- the lines that are not blank
@@ -146,11 +147,6 @@ guessed-four a b c d r s t u e f g h =
     ap guessedHeader (e ∙ ap (λ (x : List Numbered). a ∷ x) (f ∙ ap (λ (x : List Numbered). b ∷ x) (g ∙ ap (λ (x : List Numbered). c ∷ x) h)))
 
 -- ---- the line that is found
-pub found-kept : (found : ℕ) (o : Option ℕ) → (found ≡ 0 → ⊥) → lineFound found ≡ or-else (lineFound found) o
-unfolding lineFound
-found-kept zero o h = absurd (h refl)
-found-kept (suc n) o h = refl
-
 -- none was found before this line
 module _ (found number : ℕ) (none-yet : found ≡ 0) (blank strict : Bool) where
   here : or-else (lineFound found) (cond blank none (cond strict (some number) none)) ≡ cond blank none (cond strict (some number) none)
@@ -163,11 +159,7 @@ module _ (found number : ℕ) (none-yet : found ≡ 0) (blank strict : Bool) whe
 
   pub found-strict : 1 ≤ number → blank ≡ false → strict ≡ true → lineFound number ≡ or-else (lineFound found) (cond blank none (cond strict (some number) none))
   unfolding lineFound
-  found-strict h e f = go number h ∙ sym (here ∙ ap₂ (λ (b s : Bool). cond b none (cond s (some number) none)) e f)
-    where
-      go : (n : ℕ) → 1 ≤ n → lineFound n ≡ some n
-      go zero h = absurd (omega arith)
-      go (suc n) h = refl
+  found-strict h e f = line-some number h ∙ sym (here ∙ ap₂ (λ (b s : Bool). cond b none (cond s (some number) none)) e f)
 
   pub found-other : blank ≡ false → strict ≡ false → lineFound 0 ≡ or-else (lineFound found) (cond blank none (cond strict (some number) none))
   unfolding lineFound

@@ -1,9 +1,9 @@
 -- The machine's form of a header and of the lines that are looked at for it.
 use mathlib.Core.List.{List, [], _∷_}
 use mathlib.Core.Bool.{cond}
-use mathlib.Core.Option.{Option, some, none}
+use mathlib.Core.Option.{some, none}
 use mathlib.Core.Path.{_≡_}
-use Prim.Native.Nat.{ℕ, zero, suc, _+_, _<_, _≤_}
+use Prim.Native.Nat.{ℕ, suc, _+_, _<_, _≤_}
 use lib.ListN.{length, drop}
 use lib.Seq.{slice}
 use Rattle.base_outcome.specs.Codes as codes
@@ -13,7 +13,7 @@ use Rattle.base_text.specs.Bytes.{Text}
 use Rattle.spec_tucson.specs.Line.{linesOf}
 use Rattle.spec_tucson.specs.Shown.{isBlankLine}
 use Rattle.spec_tucson.specs.KeptLines.{numbered, unblank, readsStrictly}
-use Rattle.tucson_lines.specs.Machine.{LineEnd}
+use Rattle.tucson_lines.specs.Machine.{LineEnd, lineFound}
 use Rattle.tucson_header.specs.declared.HeaderFound.{HeaderFound}
 use Rattle.tucson_header.specs.declared.HeaderFound.the-variants as header-cases
 use Rattle.tucson_header.specs.declared.Line.{Line}
@@ -46,11 +46,6 @@ pub record CaptionAsks (body : Text) (first past k from end : ℕ) : Type 0 wher
   pub first-line : LineEnd body first past
   pub line : LineEnd body from end
   pub small : k < 10
-
--- A line, or none where it is 0.
-unfoldable pub lineFound : ℕ → Option ℕ
-lineFound zero = none
-lineFound (suc n) = some (suc n)
 
 -- A line with a number from 1 on.
 pub record StrictAsks (body : Text) (from end number : ℕ) : Type 0 where

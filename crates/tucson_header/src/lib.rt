@@ -23,15 +23,16 @@ pub enum Line {
     Over,
 }
 
-const LIMIT: u32 = 99;
+// The most lines of a header that can be named: `headerLimit` of spec_tucson.
+pub const HEADER_LIMIT: u32 = 99;
 
 // Whether the line from the one index up to the other can be read as a strict line.
 fn reads_strictly(body: &[u8], from: usize, end: usize) -> bool
     requires { ⌜ LineEnd (now body) from end ⌝ }
     ensures { λ r. ⌜ r ≡ readsStrictly (slice from (end + 1) (now (body .entry))) ⌝ }
 {
-    let mut shown = [0; 96];
-    let mut line = [0; 96];
+    let mut shown = [0; tucson_columns::CELLS];
+    let mut line = [0; tucson_columns::CELLS];
     let strict = tucson_shown::strict_line(body, from, end, &mut shown, &mut line);
     match strict {
         Strict::Malformed => false,
@@ -140,7 +141,7 @@ fn named(body: &[u8], h: usize) -> HeaderFound
 pub fn header(body: &[u8], named_lines: u32) -> HeaderFound
     ensures { λ r. ⌜ headerAnswer r ≡ headerOf «named_lines» (linesOf (now (body .entry))) ⌝ }
 {
-    if named_lines <= LIMIT {
+    if named_lines <= HEADER_LIMIT {
         return named(body, named_lines as usize);
     }
     HeaderFound::Ends(guessed(body))

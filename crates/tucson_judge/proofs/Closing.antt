@@ -8,31 +8,12 @@ use borrow.Author.Tests.{eq-eqb, ne-eqb}
 use lib.Dec.{eqb}
 use lib.IntN.{ℤ}
 use Rattle.base_exact.proofs.Decide.{and-false}
-use Rattle.base_outcome.specs.Search.{or-else}
 use Rattle.spec_tucson.specs.Line.{same, thousandths}
 use Rattle.spec_tucson.specs.Series.{hundredths}
 use Rattle.spec_tucson.specs.CleanSeries.{unknownUnit, unitNotSaid, hundredthsSaid, closingOf, isUnitFault, closingAfter, Fault, fault, ifHundredths, orFault}
-use Rattle.tucson_judge.specs.Judging.{lineFound, faultAt, markFound, closingFaultOf, lastAfter}
+use Rattle.tucson_lines.specs.Machine.{lineFound}
+use Rattle.tucson_judge.specs.Judging.{faultAt, markFound, closingFaultOf, lastAfter}
 use Rattle.tucson_judge.specs.declared.Mark.{Mark}
-
--- ---- a line, or none
-pub line-kept : (line : ℕ) (o : Option ℕ) → (line ≡ 0 → ⊥) → lineFound line ≡ or-else (lineFound line) o
-unfolding lineFound
-line-kept zero o h = absurd (h refl)
-line-kept (suc n) o h = refl
-
-pub no-line : (line : ℕ) (o : Option ℕ) → line ≡ 0 → o ≡ or-else (lineFound line) o
-unfolding lineFound
-no-line line o e = sym (ap (λ (n : ℕ). or-else (lineFound n) o) e)
-
-pub line-some : (n : ℕ) → 1 ≤ n → lineFound n ≡ some n
-unfolding lineFound
-line-some zero h = absurd (omega arith)
-line-some (suc n) h = refl
-
-pub line-none : lineFound 0 ≡ none
-unfolding lineFound
-line-none = refl
 
 -- ---- the unit
 pub closing-hundredths : (unit : ℕ) → unit ≡ hundredthsSaid → closingOf unit ≡ hundredths

@@ -19,6 +19,7 @@ use Rattle.spec_tucson.specs.KeptLines.{sameText}
 use Rattle.spec_tucson.specs.CleanSeries.{continues, fieldsIn, fieldsOf, unknownUnit, unitNotSaid, closingOf, closingAfter, isReclosed, reclosed, closedLines}
 use Rattle.tucson_lines.proofs.GoodLines.{columns-parts, fits-parts}
 use Rattle.tucson_lines.proofs.LineNumerals.{last-behind, front-behind, fields-count}
+use Rattle.tucson_scan.proofs.Passing.{front-length}
 use Rattle.tucson_judge.specs.Judging.{lastAfter}
 use Rattle.tucson_judge.proofs.StrictColumns.{line-relast}
 
@@ -42,11 +43,6 @@ pub record Relast (t : Text) (l : Line) (last : ℤ) : Type 0 where
   pub count-is : length (line .fields) ≡ length (l .fields)
   pub front-is : dropLast (line .fields) ≡ dropLast (l .fields)
   pub last-is : lastField (line .fields) ≡ last
-
-front-length : (fs : List ℤ) → length (dropLast fs) ≡ length fs - 1
-front-length [] = refl
-front-length (f ∷ []) = refl
-front-length (f ∷ g ∷ fs) = omega (arith, front-length (g ∷ fs))
 
 record Sized (t : Text) (l : Line) : Type 0 where
   size : length t ≡ 12 + length (l .fields) * fieldColumns

@@ -6,7 +6,7 @@ use mathlib.Core.List.{List, [], _∷_, _++_, dropLast}
 use mathlib.Core.Option.{Option, some, none, Option·some-injective}
 use Prim.Native.Nat.{ℕ, zero, suc, _+_, _*_, _-_, _/_, _<_, _≤_}
 use native.Mathlib.Omega.{arith}
-use borrow.Author.Tests.{ne-eqb, leb-true, eqb-true}
+use borrow.Author.Tests.{ne-eqb, eqb-true}
 use lib.Dec.{eqb, leb}
 use lib.IntN.{ℤ}
 use lib.ListN.{length, take, drop, length-append, length-take, length-drop, take-append-drop}
@@ -16,22 +16,15 @@ use Rattle.base_text.specs.Bytes.{Text, newline, cut}
 use Rattle.base_text.proofs.Lacking.{lacks, byte, byte-outside, lacks-append, numeral-lacks, cut-first}
 use Rattle.base_text.specs.Numeral.{numeral}
 use Rattle.spec_tucson.specs.Columns.{blank, inColumns}
-use Rattle.spec_tucson.specs.Line.{Line, nameColumns, yearColumns, fieldColumns, decade, lastPrintable, allPrintable, allBlank, isName, withField}
+use Rattle.spec_tucson.specs.Line.{Line, nameColumns, yearColumns, headColumns, fieldColumns, decade, allPrintable, allBlank, isName, withField}
 use Rattle.spec_tucson.specs.Line.{fieldNumerals, fieldCount, columnsFit, withNumerals, lineInColumns, ofCut, lineOf}
 use Rattle.spec_tucson.specs.TextReading.{lastField}
 use Rattle.spec_tucson.specs.CleanSeries.{withEnd}
 use Rattle.tucson_lines.proofs.GoodLines.{Columns, columns-parts, fits-parts}
 use Rattle.tucson_lines.proofs.LineNumerals.{behind, fields-behind, last-behind, front-behind, fields-count}
+use Rattle.spec_tucson.proofs.Lines.{printable-lacks}
 
 -- ---- no byte 10
-printable-lacks : (t : Text) → allPrintable t ≡ true → lacks (byte newline) t ≡ true
-unfolding allPrintable
-printable-lacks [] e = refl
-printable-lacks (c ∷ cs) e =
-    let outer = and-true (leb blank c && leb c lastPrintable) (allPrintable cs) e in
-    let low = leb-true blank c (and-true (leb blank c) (leb c lastPrintable) (outer .0) .0) in
-    ap₂ (λ (x y : Bool). not x && y) (ne-eqb c newline (omega arith)) (printable-lacks cs (outer .1))
-
 columns-lack : (t : Text) (z : ℤ) → inColumns t ≡ some z → lacks (byte newline) t ≡ true
 unfolding inColumns
 columns-lack [] z e = clash cc
@@ -67,13 +60,13 @@ strict-lacks t l e =
     let printable = and-true (eqb (length (take nameColumns t)) nameColumns) (allPrintable (take nameColumns t))
     (and-true (eqb (length (take nameColumns t)) nameColumns && allPrintable (take nameColumns t)) (not (allBlank (take nameColumns t))) (p .named) .0) .1 in
     let rest : Text = drop nameColumns t in
-    let behind-year : drop yearColumns rest ≡ drop (nameColumns + yearColumns) t = drop-drop yearColumns nameColumns t in
+    let behind-year : drop yearColumns rest ≡ drop headColumns t = drop-drop yearColumns nameColumns t in
     ap (lacks (byte newline)) (sym (take-append-drop nameColumns t))
     ∙ lacks-append (byte newline) (take nameColumns t) rest (printable-lacks (take nameColumns t) printable)
     (ap (lacks (byte newline)) (sym (take-append-drop yearColumns rest))
     ∙ lacks-append (byte newline) (take yearColumns rest) (drop yearColumns rest) (columns-lack (take yearColumns rest) (l .year) (p .year))
     (ap (lacks (byte newline)) behind-year
-    ∙ fields-lack (fieldCount t) (drop (nameColumns + yearColumns) t) (l .fields) (omega (arith, length-drop 12 t)) (p .fields)))
+    ∙ fields-lack (fieldCount t) (drop headColumns t) (l .fields) (omega (arith, length-drop 12 t)) (p .fields)))
 
 pub line-with-end : (t : Text) (l : Line) → lineInColumns t ≡ some l → lineOf (withEnd t) ≡ some l
 unfolding lineOf

@@ -1,6 +1,6 @@
 -- The verdict on all lines stays the same from line to line.
 use mathlib.Core.Path.{_≡_, refl, sym, _∙_, ap, ap₂}
-use mathlib.Core.Bool.{Bool, true, false, cond, _&&_, _||_, not}
+use mathlib.Core.Bool.{Bool, true, false, cond, _&&_, _||_, not, or-assoc, or-false as or-none}
 use mathlib.Core.List.{List, [], _∷_, dropLast}
 use mathlib.Core.Option.{Option, some, none}
 use Prim.Native.Nat.{ℕ, zero, suc, _≤_}
@@ -20,7 +20,8 @@ use Rattle.spec_tucson.specs.CleanSeries.{continues, followsIts, fieldsIn, fiel
 use Rattle.spec_tucson.specs.CleanSeries.{closingFault, seriesFault, closedLines, readKept}
 use Rattle.tucson_fields.specs.Machine.{NumbersOf}
 use Rattle.tucson_fields.specs.declared.Facts.{Facts}
-use Rattle.tucson_judge.specs.Judging.{lineFound, faultAt, markFound, closingFaultOf, refusedOr, readerTold, ReaderBehind, pick, verdict, Behind}
+use Rattle.tucson_lines.specs.Machine.{lineFound}
+use Rattle.tucson_judge.specs.Judging.{faultAt, markFound, closingFaultOf, refusedOr, readerTold, ReaderBehind, pick, verdict, Behind}
 use Rattle.tucson_judge.specs.declared.Mark.{Mark}
 use Rattle.tucson_judge.specs.declared.Reader.{Reader}
 use Rattle.tucson_judge.specs.declared.Judged.{Judged}
@@ -41,21 +42,13 @@ module _ (k : Kept) (before : Option Kept) (ks : List Kept) (follows goes : Bool
       ∙ ap (λ (o : Option ℕ). or-else o (yearFault (some k) ks)) (sym e)
 
 -- ---- 999 before the closing
-or-assoc : (a b c : Bool) → (a || (b || c)) ≡ ((a || b) || c)
-or-assoc true b c = refl
-or-assoc false b c = refl
-
-or-none : (b : Bool) → (b || false) ≡ b
-or-none true = refl
-or-none false = refl
-
 nine-last : (fs : List ℤ) → 1 ≤ length fs → any999 fs ≡ (any999 (dropLast fs) || same (lastField fs) hundredths)
 unfolding any999 lastField
 nine-last [] h = absurd (omega arith)
 nine-last (f ∷ []) h = or-none (same f hundredths)
 nine-last (f ∷ g ∷ fs) h =
     ap (λ (b : Bool). same f hundredths || b) (nine-last (g ∷ fs) (omega arith))
-    ∙ or-assoc (same f hundredths) (any999 (dropLast (g ∷ fs))) (same (lastField (g ∷ fs)) hundredths)
+    ∙ sym (or-assoc (same f hundredths) (any999 (dropLast (g ∷ fs))) (same (lastField (g ∷ fs)) hundredths))
 
 seen-or : (o : Option ℕ) (goes : Bool) (k : Kept) → seen999 o goes k ≡ or-else o (cond (any999 (widthFields goes (k .text))) (some (k .line)) none)
 unfolding seen999

@@ -25,17 +25,14 @@ use Rattle.tucson_fields.specs.Machine.{NumbersOf}
 use Rattle.tucson_fields.specs.declared.Facts.{Facts}
 use Rattle.tucson_scan.specs.Scan.{Tracks, Told}
 use Rattle.tucson_scan.specs.declared.Passed.{Passed}
+use Rattle.tucson_lines.specs.Machine.{lineFound}
 use Rattle.tucson_judge.specs.declared.Mark.{Mark}
 use Rattle.tucson_judge.specs.declared.Reader.{Reader}
 use Rattle.tucson_judge.specs.declared.Judged.{Judged}
 
 -- ---- what the machine's numbers stand for
 
--- A line, or none where it is 0.
-unfoldable pub lineFound : ℕ → Option ℕ
-lineFound zero = none
-lineFound (suc n) = some (suc n)
-
+-- A code and its line, or none where the line is 0.
 abbrev pub faultAt : ℕ → ℕ → Option Fault
 faultAt code zero = none
 faultAt code (suc n) = some (fault code (suc n))

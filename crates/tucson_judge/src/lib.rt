@@ -10,12 +10,14 @@ ghost use Rattle.spec_tucson.specs.Line.{decade, yearInDecade, isWidth, thousan
 ghost use Rattle.spec_tucson.specs.Line;
 ghost use Rattle.spec_tucson.specs.Series.{hundredths};
 ghost use Rattle.spec_tucson.specs.CleanSeries.{closingOf, isUnitFault, closingAfter, orFault};
-ghost use Rattle.tucson_judge.specs.Judging.{lineFound, markFound, closingFaultOf, lastAfter, FactsFit, PassedOf, ReaderNext};
+ghost use Rattle.tucson_lines.specs.Machine.{lineFound};
+ghost use Rattle.tucson_judge.specs.Judging.{markFound, closingFaultOf, lastAfter, FactsFit, PassedOf, ReaderNext};
 ghost use Rattle.tucson_judge.specs.Judging.{JudgeAsks, LineAsks, JudgedNext, Concluded};
 use base_outcome::Legality;
 use base_outcome::codes;
 use base_outcome::limits;
 use tucson_fields::Facts;
+use tucson_lines::units;
 use tucson_scan::Passed;
 
 // A code and the line that it is for; line 0 where there is none.
@@ -43,12 +45,6 @@ pub struct Judged {
     pub reader: Reader,
 }
 
-const UNKNOWN_UNIT: i32 = -999;
-
-const NOT_SAID: u32 = 0;
-
-const HUNDREDTHS_SAID: u32 = 100;
-
 // The one line, if there is one, or this line where the test holds.
 fn first_line(line: usize, here: bool, number: usize) -> usize
     requires { ⌜ 1 ≤ number ⌝ }
@@ -69,33 +65,33 @@ fn first_line(line: usize, here: bool, number: usize) -> usize
 fn closing_of(unit: u32) -> i32
     ensures { λ r. ⌜ r ≡ closingOf unit ⌝ }
 {
-    if unit == HUNDREDTHS_SAID {
-        return tucson_scan::HUNDREDTHS;
+    if unit == units::HUNDREDTHS_SAID {
+        return units::HUNDREDTHS;
     }
-    tucson_lines::THOUSANDTHS
+    units::THOUSANDTHS
 }
 
 // Whether the closing does not fit what is said of the unit.
 fn is_unit_fault(unit: u32, closing: i32) -> bool
     ensures { λ r. ⌜ r ≡ isUnitFault unit closing ⌝ }
 {
-    if unit == NOT_SAID {
-        return tucson_lines::same(closing, UNKNOWN_UNIT);
+    if unit == units::UNIT_NOT_SAID {
+        return tucson_lines::same(closing, units::UNKNOWN_UNIT);
     }
-    if unit == HUNDREDTHS_SAID {
-        return tucson_lines::same(closing, tucson_lines::THOUSANDTHS);
+    if unit == units::HUNDREDTHS_SAID {
+        return tucson_lines::same(closing, units::THOUSANDTHS);
     }
-    tucson_lines::same(closing, tucson_scan::HUNDREDTHS)
+    tucson_lines::same(closing, units::HUNDREDTHS)
 }
 
 // The last field of a series, as the unit that is said makes it.
 pub fn closing_after(unit: u32, closing: i32) -> i32
     ensures { λ r. ⌜ r ≡ closingAfter unit closing ⌝ }
 {
-    if !tucson_lines::same(closing, UNKNOWN_UNIT) {
+    if !tucson_lines::same(closing, units::UNKNOWN_UNIT) {
         return closing;
     }
-    if unit == NOT_SAID {
+    if unit == units::UNIT_NOT_SAID {
         return closing;
     }
     closing_of(unit)
@@ -125,7 +121,7 @@ fn closing_mark(m: Mark, unit: u32, seen: usize, number: usize, last: i32) -> Ma
             line: number,
         };
     }
-    if tucson_lines::same(closing_after(unit, last), tucson_scan::HUNDREDTHS) {
+    if tucson_lines::same(closing_after(unit, last), units::HUNDREDTHS) {
         return Mark {
             code: codes::FILE_CLOSING,
             line: seen,
@@ -141,9 +137,9 @@ fn is_good(year: i32, count: usize, widths: bool, last: i32) -> bool
     requires { ⌜ count ≤ decade ⌝ }
     ensures { λ r. ⌜ r ≡ (leb (yearInDecade year + count) decade && (widths && (isWidth last || Line.same last thousandths))) ⌝ }
 {
-    let ends = tucson_fields::either(
+    let ends = tucson_lines::either(
         tucson_lines::is_width(last),
-        tucson_lines::same(last, tucson_lines::THOUSANDTHS),
+        tucson_lines::same(last, units::THOUSANDTHS),
     );
     tucson_lines::both(
         tucson_lines::year_in_decade(year) + count <= limits::DECADE,
@@ -198,8 +194,8 @@ fn read(r: Reader, f: Facts, goes: bool, unit: u32, number: usize) -> Reader
 fn has_nine(goes: bool, nine: bool, last: i32) -> bool
     ensures { λ r. ⌜ r ≡ (nine || (goes && Line.same last hundredths)) ⌝ }
 {
-    let closes = tucson_lines::same(last, tucson_scan::HUNDREDTHS);
-    tucson_fields::either(nine, tucson_lines::both(goes, closes))
+    let closes = tucson_lines::same(last, units::HUNDREDTHS);
+    tucson_lines::either(nine, tucson_lines::both(goes, closes))
 }
 
 // What is found behind a strict line that follows its series or not, and whose series goes on or not.

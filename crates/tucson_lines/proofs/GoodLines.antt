@@ -18,7 +18,7 @@ use Rattle.base_text.specs.Numeral.{numeral, isNatural, digitsValue, negated, n
 use Rattle.base_text.proofs.Digits.{natural-small}
 use Rattle.base_text.proofs.Slice.{take-slice, drop-slice}
 use Rattle.spec_tucson.specs.Columns.{blank, inColumns}
-use Rattle.spec_tucson.specs.Line.{Line, nameColumns, yearColumns, fieldColumns, decade, thousandths, fieldNumerals, fieldCount, columnsFit}
+use Rattle.spec_tucson.specs.Line.{Line, nameColumns, yearColumns, headColumns, fieldColumns, decade, thousandths, fieldNumerals, fieldCount, columnsFit}
 use Rattle.spec_tucson.specs.Line.{allPrintable, allBlank, isName, isWidth, same, withNumerals, lineInColumns, ofCut, lineOf, withinDecade}
 use Rattle.spec_tucson.specs.Line.{fieldsAllowed, ifAllowed, goodLine}
 use Rattle.spec_tucson.specs.TextReading.{lastField}
@@ -105,7 +105,7 @@ pub record Columns (body : Text) (l : Line) : Type 0 where
   pub named : isName (take nameColumns body) ≡ true
   pub name : l .name ≡ take nameColumns body
   pub year : inColumns (take yearColumns (drop nameColumns body)) ≡ some (l .year)
-  pub fields : fieldNumerals (fieldCount body) (drop (nameColumns + yearColumns) body) ≡ some (l .fields)
+  pub fields : fieldNumerals (fieldCount body) (drop headColumns body) ≡ some (l .fields)
 
 with-some : (name : Text) (y : Option ℤ) (fs : Option (List ℤ)) (l : Line) → withNumerals name y fs ≡ some l
     → (l .name ≡ name) × ((y ≡ some (l .year)) × (fs ≡ some (l .fields)))
@@ -121,12 +121,12 @@ columns-parts body l e = go (columnsFit body && isName (take nameColumns body)) 
   where
     go : (b : Bool) → (columnsFit body && isName (take nameColumns body)) ≡ b →
         cond b (withNumerals (take nameColumns body) (inColumns (take yearColumns (drop nameColumns body)))
-        (fieldNumerals (fieldCount body) (drop (nameColumns + yearColumns) body))) none ≡ some l → Columns body l
+        (fieldNumerals (fieldCount body) (drop headColumns body))) none ≡ some l → Columns body l
     go true k e =
         let both = and-true (columnsFit body) (isName (take nameColumns body)) k in
         let made =
         with-some (take nameColumns body) (inColumns (take yearColumns (drop nameColumns body)))
-        (fieldNumerals (fieldCount body) (drop (nameColumns + yearColumns) body)) l e in
+        (fieldNumerals (fieldCount body) (drop headColumns body)) l e in
         record { fits = both .0; named = both .1; name = made .0; year = made .1 .0; fields = made .1 .1 }
     go false k e = clash cc
 
@@ -162,7 +162,7 @@ good-line text from end at l e = go (le-or-lt (length text) end)
         let allowed = allowed-parts (lineInColumns body) l (sym (good-columns text from end at true ended) ∙ e) in
         let p = columns-parts body l (allowed .0) in
         let q = fits-parts body (p .fits) in
-        let count : length (l .fields) ≡ fieldCount body = fields-count (fieldCount body) (drop (nameColumns + yearColumns) body) (l .fields) (p .fields) in
+        let count : length (l .fields) ≡ fieldCount body = fields-count (fieldCount body) (drop headColumns body) (l .fields) (p .fields) in
         let size : length body ≡ end - from = length-slice from end text (within .1) in
         let name-at : take nameColumns body ≡ slice from (from + nameColumns) text = take-slice nameColumns from end text (omega arith) in
         record {
@@ -172,7 +172,7 @@ good-line text from end at l e = go (le-or-lt (length text) end)
           few = omega arith;
           named = rw name-at at (p .named);
           name = p .name ∙ name-at;
-          numerals = ap₂ fieldNumerals count (sym (drop-slice (nameColumns + yearColumns) from end text)) ∙ p .fields;
+          numerals = ap₂ fieldNumerals count (sym (drop-slice headColumns from end text)) ∙ p .fields;
           year-small = columns-small _ (l .year) (p .year);
           allowed = allowed .1 .1;
         }

@@ -16,7 +16,7 @@ use Rattle.base_exact.proofs.Decide.{clash}
 use Rattle.base_text.specs.Bytes.{Text}
 use Rattle.base_text.proofs.Slice.{take-slice, drop-slice}
 use Rattle.spec_tucson.specs.Columns.{inColumns}
-use Rattle.spec_tucson.specs.Line.{Line, nameColumns, yearColumns, fieldColumns, decade, thousandths, withField, fieldNumerals, fieldCount}
+use Rattle.spec_tucson.specs.Line.{Line, nameColumns, yearColumns, headColumns, fieldColumns, decade, thousandths, withField, fieldNumerals, fieldCount}
 use Rattle.spec_tucson.specs.Line.{columnsFit, isName, isWidth, same, withNumerals, lineInColumns, yearInDecade, withinDecade}
 use Rattle.spec_tucson.specs.Line.{fieldsAllowed, ifAllowed, goodLine}
 use Rattle.spec_tucson.specs.Series.{allHundredths}
@@ -193,10 +193,10 @@ module _ {text : Text} {from end n : ℕ} (columns : ColumnsOf text from end n) 
       ap (take fieldColumns) (drop-slice ((n - 1) * fieldColumns) (from + 12) end text ∙ ap (λ (k : ℕ). slice k end text) e)
       ∙ take-slice fieldColumns (end - fieldColumns) end text (omega arith) ∙ ap (λ (k : ℕ). slice (end - fieldColumns) k text) f
 
-  fields-at : fieldNumerals n (drop (nameColumns + yearColumns) (slice from end text)) ≡ behind front-numerals last-numeral
+  fields-at : fieldNumerals n (drop headColumns (slice from end text)) ≡ behind front-numerals last-numeral
   fields-at =
       let e : n ≡ suc (n - 1) = omega arith in
-      ap₂ fieldNumerals e (drop-slice (nameColumns + yearColumns) from end text)
+      ap₂ fieldNumerals e (drop-slice headColumns from end text)
       ∙ fields-behind (n - 1) (slice (from + 12) end text)
       ∙ ap (λ (t : Text). behind front-numerals (inColumns t)) last-at
 
@@ -251,7 +251,7 @@ module _ (text : Text) (from end : ℕ) (at : LineEnd text from end) (ended : en
   abbrev column-line : Option Line
   column-line =
       withNumerals (take nameColumns body) (inColumns (take yearColumns (drop nameColumns body)))
-      (fieldNumerals (fieldCount body) (drop (nameColumns + yearColumns) body))
+      (fieldNumerals (fieldCount body) (drop headColumns body))
 
   good-is : goodLine true (slice from (end + 1) text) ≡ ifAllowed true (lineInColumns body)
   good-is = good-columns text from end at true ended

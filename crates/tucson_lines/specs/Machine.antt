@@ -3,13 +3,14 @@ use mathlib.Core.Bool.{Bool, true, cond, _&&_}
 use mathlib.Core.List.{List, dropLast}
 use mathlib.Core.Option.{Option, some, none}
 use mathlib.Core.Path.{_≡_}
-use Prim.Native.Nat.{ℕ, _+_, _*_, _≤_}
+use Prim.Native.Nat.{ℕ, zero, suc, _+_, _*_, _≤_}
 use lib.IntN.{ℤ}
 use lib.ListN.{length, take, drop}
 use lib.Seq.{slice}
 use Rattle.base_text.specs.Bytes.{Text, newline, indexOf, Range}
 use Rattle.spec_tucson.specs.Columns.{inColumns}
-use Rattle.spec_tucson.specs.Line.{nameColumns, yearColumns, fieldColumns, fieldNumerals, isName, Line, withNumerals, ifAllowed}
+use Rattle.spec_tucson.specs.Line.{nameColumns, yearColumns, headColumns, fieldColumns, fieldNumerals, isName, Line}
+use Rattle.spec_tucson.specs.Line.{withNumerals, ifAllowed}
 use Rattle.spec_tucson.specs.Series.{allHundredths}
 use Rattle.spec_tucson.specs.TextReading.{lastField}
 use Rattle.spec_tucson.specs.Writing.{allWidths}
@@ -23,6 +24,11 @@ pub record LineEnd (text : Text) (from end : ℕ) : Type 0 where
   pub within : from ≤ length text
   pub is : end ≡ from + indexOf newline (slice from (length text) text)
 
+-- A line by its number, or none where that is 0.
+unfoldable pub lineFound : ℕ → Option ℕ
+lineFound zero = none
+lineFound (suc n) = some (suc n)
+
 -- A range of a text with n fields.
 pub record FieldsWithin (text : Text) (from to n : ℕ) : Type 0 where
   pub range : Range text from to
@@ -32,7 +38,7 @@ pub record FieldsWithin (text : Text) (from to n : ℕ) : Type 0 where
 pub record ColumnsOf (text : Text) (from end n : ℕ) : Type 0 where
   pub range : Range text from end
   pub some-field : 1 ≤ n
-  pub size : end ≡ from + 12 + n * fieldColumns
+  pub size : end ≡ from + headColumns + n * fieldColumns
 
 -- A line with a good name that byte 10 ends.
 pub record NamedLine (text : Text) (from end : ℕ) : Type 0 where
@@ -54,4 +60,4 @@ lineTold (some l) = line-cases.Good (l .year) (length (l .fields)) (allHundredth
 abbrev pub numeralsTold : Text → ℕ → LineAnswer
 numeralsTold body n =
     lineTold (ifAllowed true (withNumerals (take nameColumns body) (inColumns (take yearColumns (drop nameColumns body)))
-    (fieldNumerals n (drop (nameColumns + yearColumns) body))))
+    (fieldNumerals n (drop headColumns body))))

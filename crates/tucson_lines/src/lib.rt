@@ -1,5 +1,7 @@
 // One line of a Tucson text: its columns and end, its name, the numbers of its year and fields, and whether the next line has
 // the same name.
+pub mod units;
+
 ghost use mathlib.Core.Bool.{true, _&&_, _||_};
 ghost use mathlib.Core.Path.{_≡_};
 ghost use Prim.Native.Nat.{_+_, _≤_};
@@ -16,24 +18,8 @@ ghost use Rattle.tucson_lines.specs.Machine.{widthsTold, numeralsTold, l
 use base_outcome::limits;
 use base_text::numeral::Field;
 
-pub const NAME: usize = limits::NAME_COLUMNS;
-
-const YEAR: usize = limits::YEAR_COLUMNS;
-
-pub const FIELD: usize = limits::FIELD_COLUMNS;
-
-// The columns before the first field.
-pub const HEAD: usize = limits::HEAD_COLUMNS;
-
-const DECADE: usize = limits::DECADE;
-
+// The years of a decade, as a remainder of years takes them.
 const DECADE_YEARS: u32 = limits::DECADE as u32;
-
-const WIDTH_LIMIT: i32 = limits::WIDTH_LIMIT;
-
-pub const HUNDREDTHS_LIMIT: i32 = 9999;
-
-pub const THOUSANDTHS: i32 = -9999;
 
 // A good line: its year, how many fields it has, whether all fields but the last are at most 9,999, and the last field.
 pub enum LineAnswer {
@@ -54,6 +40,15 @@ pub fn both(a: bool, b: bool) -> bool
         return b;
     }
     false
+}
+
+pub fn either(a: bool, b: bool) -> bool
+    ensures { λ r. ⌜ r ≡ (a || b) ⌝ }
+{
+    if a {
+        return true;
+    }
+    b
 }
 
 // Whether two signed numbers are the same.
@@ -114,17 +109,17 @@ pub fn is_name(text: &[u8], from: usize) -> bool
     requires { ⌜ from + nameColumns ≤ length (now text) ⌝ }
     ensures { λ r. ⌜ r ≡ isName (slice from (from + nameColumns) (now (text .entry))) ⌝ }
 {
-    if !all_printable(text, from, from + NAME) {
+    if !all_printable(text, from, from + limits::NAME_COLUMNS) {
         return false;
     }
-    !all_blank(text, from, from + NAME)
+    !all_blank(text, from, from + limits::NAME_COLUMNS)
 }
 
 pub fn year_in_decade(year: i32) -> usize
     ensures { λ r. ⌜ r ≡ yearInDecade year ⌝ }
 {
     if year < 0 {
-        return DECADE - 1 - ((-1 - year) as u32 % DECADE_YEARS) as usize;
+        return limits::DECADE - 1 - ((-1 - year) as u32 % DECADE_YEARS) as usize;
     }
     (year as u32 % DECADE_YEARS) as usize
 }
@@ -132,7 +127,7 @@ pub fn year_in_decade(year: i32) -> usize
 pub fn is_width(field: i32) -> bool
     ensures { λ r. ⌜ r ≡ isWidth field ⌝ }
 {
-    both(0 <= field, field <= WIDTH_LIMIT)
+    both(0 <= field, field <= limits::WIDTH_LIMIT)
 }
 
 // Whether a series' last field may be this one.
@@ -142,7 +137,7 @@ fn ends_series(field: i32) -> bool
     if is_width(field) {
         return true;
     }
-    same(field, THOUSANDTHS)
+    same(field, units::THOUSANDTHS)
 }
 
 // Looks through the first n fields from the index on.
@@ -154,7 +149,7 @@ fn widths(text: &[u8], from: usize, to: usize, n: usize) -> WidthsAnswer
     let mut at = from;
     let mut left = n;
     while left > 0 {
-        let field = numeral(text, at, at + FIELD);
+        let field = numeral(text, at, at + limits::FIELD_COLUMNS);
         match field {
             Field::Bad => {
                 return WidthsAnswer::Bad;
@@ -163,8 +158,8 @@ fn widths(text: &[u8], from: usize, to: usize, n: usize) -> WidthsAnswer
                 if !is_width(z) {
                     return WidthsAnswer::Bad;
                 }
-                small = both(small, z <= HUNDREDTHS_LIMIT);
-                at += FIELD;
+                small = both(small, z <= units::HUNDREDTHS_LIMIT);
+                at += limits::FIELD_COLUMNS;
                 left -= 1;
             }
         }
@@ -177,16 +172,20 @@ fn numerals(text: &[u8], from: usize, end: usize, n: usize) -> LineAnswer
     requires { ⌜ ColumnsOf (now text) from end n ⌝ }
     ensures { λ r. ⌜ r ≡ numeralsTold (slice from end (now (text .entry))) n ⌝ }
 {
-    let Field::Numeral(year) = numeral(text, from + NAME, from + HEAD) else {
+    let Field::Numeral(year) = numeral(
+        text,
+        from + limits::NAME_COLUMNS,
+        from + limits::HEAD_COLUMNS,
+    ) else {
         return LineAnswer::Bad;
     };
-    let WidthsAnswer::Small(small) = widths(text, from + HEAD, end, n - 1) else {
+    let WidthsAnswer::Small(small) = widths(text, from + limits::HEAD_COLUMNS, end, n - 1) else {
         return LineAnswer::Bad;
     };
-    let Field::Numeral(last) = numeral(text, end - FIELD, end) else {
+    let Field::Numeral(last) = numeral(text, end - limits::FIELD_COLUMNS, end) else {
         return LineAnswer::Bad;
     };
-    if year_in_decade(year) + n > DECADE {
+    if year_in_decade(year) + n > limits::DECADE {
         return LineAnswer::Bad;
     }
     if !ends_series(last) {
@@ -204,14 +203,14 @@ pub fn line(text: &[u8], from: usize, end: usize) -> LineAnswer
         return LineAnswer::Bad;
     }
     let size = end - from;
-    if size < HEAD + FIELD {
+    if size < limits::HEAD_COLUMNS + limits::FIELD_COLUMNS {
         return LineAnswer::Bad;
     }
-    let n = (size - HEAD) / FIELD;
-    if size != HEAD + n * FIELD {
+    let n = (size - limits::HEAD_COLUMNS) / limits::FIELD_COLUMNS;
+    if size != limits::HEAD_COLUMNS + n * limits::FIELD_COLUMNS {
         return LineAnswer::Bad;
     }
-    if n > DECADE {
+    if n > limits::DECADE {
         return LineAnswer::Bad;
     }
     if !is_name(text, from) {
@@ -225,5 +224,10 @@ pub fn goes_on(text: &[u8], from: usize, end: usize) -> bool
     requires { ⌜ NamedLine (now text) from end ⌝ }
     ensures { λ r. ⌜ r ≡ goesOn (slice from (end + 1) (now (text .entry))) (linesOf (drop (end + 1) (now (text .entry)))) ⌝ }
 {
-    base_text::fields::begins(text, end + 1, text.len(), &text[from..from + NAME])
+    base_text::fields::begins(
+        text,
+        end + 1,
+        text.len(),
+        &text[from..from + limits::NAME_COLUMNS],
+    )
 }

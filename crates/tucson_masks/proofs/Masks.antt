@@ -17,6 +17,7 @@ use Rattle.spec_tucson.specs.StrictLine.{isHigh, anyHigh, questionMark, bytesMa
 use Rattle.spec_tucson.specs.StrictLine.{isStrict, ifStrict, masked, lineColumns}
 use Rattle.tucson_strict.proofs.Strict.{strict-size, strict-long, strict-lacks, take-longer}
 use Rattle.tucson_columns.specs.Machine.{cells}
+use Rattle.tucson_columns.proofs.Shown.{take-few}
 use Rattle.tucson_masks.specs.Machine.{maskedByte, MaskedTold}
 
 -- ---- ? for bytes
@@ -94,11 +95,6 @@ marks-few (c ∷ t) = go (eqb c questionMark) (marks-few t)
 marks-none : (t : Text) → lacks (byte questionMark) t ≡ true → marks t ≡ 0
 marks-none [] e = refl
 marks-none (c ∷ t) e = let both = lacks-first (byte questionMark) c t e in ap (λ (b : Bool). cond b (suc (marks t)) (marks t)) (both .0) ∙ marks-none t (both .1)
-
-take-few : (n : ℕ) (t : Text) → length (take n t) ≤ n
-take-few zero t = omega arith
-take-few (suc n) [] = omega arith
-take-few (suc n) (c ∷ t) = omega (arith, take-few n t)
 
 -- no character has more than four bytes
 follow-few : (c : ℕ) → followOf c .count ≤ 3

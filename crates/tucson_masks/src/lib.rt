@@ -10,14 +10,11 @@ ghost use Rattle.spec_tucson.specs.StrictLine.{bytesMasked, followOf, character
 ghost use Rattle.tucson_columns.specs.Machine.{cells};
 ghost use Rattle.tucson_masks.specs.Machine.{maskedByte, allContinue, SizeAsks, SizeTold, MaskAsks, MaskedTold};
 
-// The first byte that is not ASCII.
-const HIGH: u8 = 128;
-
 // The last byte that may follow the first one of a character.
 const LAST: u8 = 191;
 
 // A count that no line has: its bytes are not UTF-8.
-const NONE: usize = 97;
+const NONE: usize = tucson_columns::CELLS + 1;
 
 // The count of bytes where no form alone is a strict line.
 pub const NO_LINE: usize = 0;
@@ -26,7 +23,7 @@ pub const NO_LINE: usize = 0;
 fn mask(byte: u8) -> u8
     ensures { λ r. ⌜ r ≡ maskedByte byte ⌝ }
 {
-    if byte >= HIGH {
+    if byte >= tucson_columns::HIGH {
         return b'?';
     }
     byte
@@ -79,7 +76,7 @@ fn follow_low(byte: u8) -> u8
     if byte == 240 {
         return 144;
     }
-    HIGH
+    tucson_columns::HIGH
 }
 
 // The greatest.
@@ -108,7 +105,7 @@ fn all_continue(text: &[u8], from: usize, to: usize) -> bool
 {
     let mut i = from;
     while i < to {
-        if text[i] < HIGH {
+        if text[i] < tucson_columns::HIGH {
             return false;
         }
         if text[i] > LAST {
@@ -125,7 +122,7 @@ fn character_size(bytes: &[u8], at: usize, n: usize) -> usize
     ensures { λ r. ⌜ SizeTold (now (bytes .entry)) at n r ⌝ }
 {
     let byte = bytes[at];
-    if byte < HIGH {
+    if byte < tucson_columns::HIGH {
         return 1;
     }
     let count = follow_count(byte);

@@ -1,6 +1,6 @@
 -- A line's columns one at a time: the byte in a column, digits up to a column, a blank inside a name, two texts compared.
 use mathlib.Core.Path.{_≡_, refl, sym, _∙_, ap, ap₂}
-use mathlib.Core.Bool.{Bool, true, false, cond, _&&_, _||_, not}
+use mathlib.Core.Bool.{Bool, true, false, cond, _&&_, _||_, not, or-true, or-false as or-none}
 use mathlib.Core.List.{List, [], _∷_}
 use Prim.Native.Nat.{ℕ, zero, suc, _+_, _-_, _<_, _≤_}
 use native.Mathlib.Numerals.{add-one}
@@ -9,7 +9,7 @@ use borrow.Author.Tests.{eq-eqb, ne-eqb, leb-true, leb-false, lt-ltb, le-ltb}
 use lib.Dec.{eqb, leb, ltb}
 use lib.ListN.{length, getD, drop, drop-of-length-le}
 use lib.Seq.{slice, slice-empty, drop-cons}
-use Rattle.base_exact.proofs.Decide.{and-false, cond-true, cond-false}
+use Rattle.base_exact.proofs.Decide.{cond-true, cond-false}
 use Rattle.base_text.specs.Bytes.{Text}
 use Rattle.base_text.specs.Numeral.{isDigit}
 use Rattle.base_text.proofs.Slice.{slice-step}
@@ -19,14 +19,7 @@ use Rattle.spec_tucson.specs.Shown.{unlessTrailing, trimmed}
 use Rattle.spec_tucson.specs.StrictLine.{questionMark, nameOf}
 use Rattle.spec_tucson.specs.KeptLines.{sameText, column}
 use Rattle.spec_tucson.specs.CleanSeries.{isSign, digitsIn, yearInName, digitsBehind, endsInNumber, anyBlank, isShifted}
-
-or-true : (b : Bool) → (b || true) ≡ true
-or-true true = refl
-or-true false = refl
-
-or-none : (b : Bool) → (b || false) ≡ b
-or-none true = refl
-or-none false = refl
+use Rattle.spec_tucson.proofs.Lines.{column-at}
 
 -- ---- tests in a row
 pub yes-or : {a : Bool} (b : Bool) → a ≡ true → (a || b) ≡ true
@@ -49,12 +42,6 @@ digit-top c = go (leb c 57) refl
     go false e = sym (le-ltb c 58 (omega (arith, leb-false c 57 e)))
 
 -- ---- the byte in a column
-pub column-at : (i : ℕ) (t : Text) → column (suc i) t ≡ getD t i 0
-unfolding column
-column-at i [] = refl
-column-at zero (c ∷ cs) = refl
-column-at (suc i) (c ∷ cs) = column-at i cs
-
 pub column-next : (i : ℕ) (t : Text) → column (i + 1) t ≡ getD t i 0
 column-next i t = ap (λ (n : ℕ). column n t) (add-one i) ∙ column-at i t
 
@@ -205,13 +192,6 @@ unfolding inside
 inside-all t = or-none (anyBlank (trimmed t))
 
 -- ---- two texts
-pub same-lengths : (a b : Text) → (length a ≡ length b → ⊥) → sameText a b ≡ false
-unfolding sameText
-same-lengths [] [] h = absurd (h refl)
-same-lengths [] (d ∷ ds) h = refl
-same-lengths (c ∷ cs) [] h = refl
-same-lengths (c ∷ cs) (d ∷ ds) h = ap (λ (b : Bool). eqb c d && b) (same-lengths cs ds (λ (e : length cs ≡ length ds). h (ap suc e))) ∙ and-false (eqb c d)
-
 pub same-over : (a b : Text) (i : ℕ) → length a ≤ i → length b ≤ i → sameText (drop i a) (drop i b) ≡ true
 unfolding sameText
 same-over a b i h k = ap₂ sameText (drop-of-length-le a h) (drop-of-length-le b k)

@@ -1,9 +1,10 @@
 // The name of a strict line: whether the year runs into it, and whether two lines have the same bytes for it.
-ghost use mathlib.Core.Bool.{_&&_, _||_};
+ghost use mathlib.Core.Bool.{_&&_};
 ghost use mathlib.Core.Path.{_≡_};
 ghost use Prim.Native.Nat.{_+_, _≤_};
 ghost use lib.ListN.{length};
 ghost use Rattle.base_text.specs.Numeral.{isDigit};
+ghost use Rattle.spec_tucson.specs.Line.{headColumns};
 ghost use Rattle.spec_tucson.specs.KeptLines.{sameText};
 ghost use Rattle.spec_tucson.specs.CleanSeries.{isSign, digitsIn, yearInName, digitsBehind, endsInNumber, isShifted, runsIn};
 ghost use Rattle.tucson_names.specs.Machine.{blankInside};
@@ -12,19 +13,10 @@ use base_outcome::limits;
 // The columns of a line with one field.
 const ONE_FIELD: usize = limits::HEAD_COLUMNS + limits::FIELD_COLUMNS;
 
-fn either(a: bool, b: bool) -> bool
-    ensures { λ r. ⌜ r ≡ (a || b) ⌝ }
-{
-    if a {
-        return true;
-    }
-    b
-}
-
 fn is_sign(c: u8) -> bool
     ensures { λ r. ⌜ r ≡ isSign c ⌝ }
 {
-    either(c == b'-', c == b'?')
+    tucson_lines::either(c == b'-', c == b'?')
 }
 
 fn is_digit(c: u8) -> bool
@@ -55,7 +47,7 @@ fn digits_in(line: &[u8], from: usize, n: usize) -> bool
 
 // Whether a sign stands in the name's last column, or a year of five columns behind a sign or a blank.
 fn year_in_name(line: &[u8]) -> bool
-    requires { ⌜ 12 ≤ length (now line) ⌝ }
+    requires { ⌜ headColumns ≤ length (now line) ⌝ }
     ensures { λ r. ⌜ r ≡ yearInName (now (line .entry)) ⌝ }
 {
     if is_sign(line[limits::NAME_COLUMNS - 1]) {
@@ -66,7 +58,7 @@ fn year_in_name(line: &[u8]) -> bool
         limits::NAME_COLUMNS - 1,
         limits::HEAD_COLUMNS - limits::NAME_COLUMNS + 1,
     ) {
-        return either(
+        return tucson_lines::either(
             is_sign(line[limits::NAME_COLUMNS - 2]),
             line[limits::NAME_COLUMNS - 2] == b' ',
         );
@@ -82,7 +74,7 @@ fn digits_behind(line: &[u8], n: usize) -> bool
     let mut i = n;
     while i > 0 {
         if !is_digit(line[i - 1]) {
-            return either(line[i - 1] == b' ', line[i - 1] == b'?');
+            return tucson_lines::either(line[i - 1] == b' ', line[i - 1] == b'?');
         }
         i -= 1;
     }
@@ -91,7 +83,7 @@ fn digits_behind(line: &[u8], n: usize) -> bool
 
 // Whether the name ends, in its last column, with digits behind a blank or a ?.
 fn ends_in_number(line: &[u8]) -> bool
-    requires { ⌜ 12 ≤ length (now line) ⌝ }
+    requires { ⌜ headColumns ≤ length (now line) ⌝ }
     ensures { λ r. ⌜ r ≡ endsInNumber (now (line .entry)) ⌝ }
 {
     if is_digit(line[limits::NAME_COLUMNS - 1]) {
@@ -102,7 +94,7 @@ fn ends_in_number(line: &[u8]) -> bool
 
 // Whether a blank stands in the name with another byte behind it.
 fn blank_inside(line: &[u8]) -> bool
-    requires { ⌜ 12 ≤ length (now line) ⌝ }
+    requires { ⌜ headColumns ≤ length (now line) ⌝ }
     ensures { λ r. ⌜ r ≡ blankInside (now (line .entry)) ⌝ }
 {
     let mut seen = false;
@@ -122,7 +114,7 @@ fn blank_inside(line: &[u8]) -> bool
 
 // Whether the line is shifted: its name begins with a blank, ends in a number, or has a blank inside while there is one field alone.
 fn is_shifted(line: &[u8]) -> bool
-    requires { ⌜ 12 ≤ length (now line) ⌝ }
+    requires { ⌜ headColumns ≤ length (now line) ⌝ }
     ensures { λ r. ⌜ r ≡ isShifted (now (line .entry)) ⌝ }
 {
     if line[0] == b' ' {
@@ -139,7 +131,7 @@ fn is_shifted(line: &[u8]) -> bool
 
 // Code 23 of a strict line, which is a series by itself or not.
 pub fn runs_in(line: &[u8], alone: bool) -> bool
-    requires { ⌜ 12 ≤ length (now line) ⌝ }
+    requires { ⌜ headColumns ≤ length (now line) ⌝ }
     ensures { λ r. ⌜ r ≡ runsIn alone (now (line .entry)) ⌝ }
 {
     if year_in_name(line) {

@@ -14,7 +14,7 @@ use Rattle.base_exact.proofs.Decide.{clash, and-true}
 use Rattle.base_text.specs.Bytes.{Text}
 use Rattle.base_text.proofs.Slice.{slice-take, take-slice, drop-slice}
 use Rattle.spec_tucson.specs.Columns.{inColumns}
-use Rattle.spec_tucson.specs.Line.{Line, nameColumns, yearColumns, fieldColumns, decade, withField, fieldNumerals, fieldCount, columnsFit, isName, withNumerals, lineInColumns}
+use Rattle.spec_tucson.specs.Line.{Line, nameColumns, yearColumns, headColumns, fieldColumns, decade, withField, fieldNumerals, fieldCount, columnsFit, isName, withNumerals, lineInColumns}
 use Rattle.spec_tucson.specs.TextReading.{lastField}
 use Rattle.spec_tucson.specs.StrictLine.{isSome, isStrict}
 use Rattle.spec_tucson.specs.CleanSeries.{fieldsIn, fieldsOf}
@@ -27,7 +27,7 @@ use Rattle.tucson_notes.specs.Machine.{numberIn}
 pub record StrictParts (t : Text) : Type 0 where
   pub columns-fit : columnsFit t ≡ true
   pub named : isName (take nameColumns t) ≡ true
-  pub numerals : fieldNumerals (fieldCount t) (drop (nameColumns + yearColumns) t) ≡ some (fieldsOf t)
+  pub numerals : fieldNumerals (fieldCount t) (drop headColumns t) ≡ some (fieldsOf t)
 
 pub strict-parts : (t : Text) → isStrict t ≡ true → StrictParts t
 unfolding isStrict lineInColumns fieldsOf
@@ -37,7 +37,7 @@ strict-parts t e = go (columnsFit t && isName (take nameColumns t)) refl e
     year = inColumns (take yearColumns (drop nameColumns t))
 
     all : Option (List ℤ)
-    all = fieldNumerals (fieldCount t) (drop (nameColumns + yearColumns) t)
+    all = fieldNumerals (fieldCount t) (drop headColumns t)
 
     inside : (y : Option ℤ) (fs : Option (List ℤ)) → isSome (withNumerals (take nameColumns t) y fs) ≡ true
         → fs ≡ some (fieldsIn (withNumerals (take nameColumns t) y fs))

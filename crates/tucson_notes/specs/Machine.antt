@@ -11,7 +11,7 @@ use lib.Seq.{slice}
 use Rattle.base_print.specs.Buffer.{Puts}
 use Rattle.base_text.specs.Bytes.{Text}
 use Rattle.spec_tucson.specs.Columns.{inColumns, columns}
-use Rattle.spec_tucson.specs.Line.{fieldColumns}
+use Rattle.spec_tucson.specs.Line.{headColumns, fieldColumns}
 use Rattle.spec_tucson.specs.TextReading.{lastField}
 use Rattle.spec_tucson.specs.StrictLine.{isStrict, lineColumns}
 use Rattle.spec_tucson.specs.CleanSeries.{fieldsOf, closingOf, withEnd}
@@ -36,8 +36,8 @@ beforeIn count n line = cond (ltb count 2) (pos 0)
 pub record BeforeAsks (line : Text) (count n : ℕ) (first : ℤ) : Type 0 where
   pub within : n ≤ length line
   pub some-field : 1 ≤ count
-  pub columns-are : n ≡ 12 + count * fieldColumns
-  pub first-is : first ≡ numberIn (inColumns (slice 12 (12 + fieldColumns) line))
+  pub columns-are : n ≡ headColumns + count * fieldColumns
+  pub first-is : first ≡ numberIn (inColumns (slice headColumns (headColumns + fieldColumns) line))
 
 -- What is told of some fields.
 pub record SumsUp (fs : List ℤ) (f : machine-fields.Fields) : Type 0 where
@@ -103,6 +103,20 @@ marked m ns = shownMarked m (formMarked m ns)
 pub record PutsMarks (at line : ℕ) (m : machine-marks.Marks) (before after : List ℕ) (next : ℕ) : Type 0 where
   pub puts : Puts 16 at (atLine line (marked m [])) before after next
   pub before-all : (ns : List ℕ) → atLine line (marked m []) ++ atLine line ns ≡ atLine line (marked m ns)
+
+-- ---- what one line takes at most
+
+-- Bytes of the strict text: a line with all its fields, one field more, and its end.
+abbrev pub bytesPerLine : ℕ
+bytesPerLine = 79
+
+-- Cells of notes: two for each of eleven notes.
+abbrev pub cellsPerLine : ℕ
+cellsPerLine = 22
+
+-- Cells of the notes that are on the file as a whole: two notes.
+abbrev pub cellsPerFile : ℕ
+cellsPerFile = 4
 
 -- ---- a strict line in the text
 

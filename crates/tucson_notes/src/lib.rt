@@ -14,12 +14,19 @@ ghost use Rattle.spec_tucson.specs.CleanSeries.{fieldsOf, closingOf};
 ghost use Rattle.spec_tucson.specs.CleanNotes.{noteIf, atLine, hasLastWidth, isOtherUnit};
 ghost use Rattle.tucson_notes.specs.Machine.{numberIn, beforeIn, FieldsAsk, BeforeAsks, SumsUp, EndsWith, aheadOf};
 ghost use Rattle.tucson_notes.specs.Machine.{TellsWidth, TellsAbsent, TellsLike, PutsRemarks};
-ghost use Rattle.tucson_notes.specs.Machine.{shownMarked, formMarked, PutsMarks, StrictAsks, strictPut};
+ghost use Rattle.tucson_notes.specs.Machine.{shownMarked, formMarked, PutsMarks, StrictAsks, bytesPerLine, strictPut};
+use base_outcome::limits;
 use base_text::numeral::Field;
+use tucson_lines::units;
 
-const HUNDREDTHS: i32 = 999;
+// The most bytes that a line of the file takes in the strict text: `bytesPerLine` of specs/Machine.
+pub const BYTES_PER_LINE: usize = 79;
 
-const HUNDREDTHS_SAID: u32 = 100;
+// The most cells of its notes: `cellsPerLine`.
+pub const CELLS_PER_LINE: usize = 22;
+
+// The most cells of the notes on the file as a whole: `cellsPerFile`.
+pub const CELLS_PER_FILE: usize = 4;
 
 // The fields of a strict line: how many, the first, the last, and the one before the last, 0 where there is none.
 pub struct Fields {
@@ -83,7 +90,7 @@ fn field(line: &[u8], from: usize) -> i32
     requires { ⌜ from + fieldColumns ≤ length (now line) ⌝ }
     ensures { λ r. ⌜ r ≡ numberIn (inColumns (slice from (from + fieldColumns) (now (line .entry)))) ⌝ }
 {
-    let found = tucson_lines::numeral(line, from, from + tucson_lines::FIELD);
+    let found = tucson_lines::numeral(line, from, from + limits::FIELD_COLUMNS);
     match found {
         Field::Bad => 0,
         Field::Numeral(z) => z,
@@ -101,7 +108,7 @@ fn field_before(line: &[u8], count: usize, n: usize, first: i32) -> i32
     if count == 2 {
         return first;
     }
-    field(line, n - 2 * tucson_lines::FIELD)
+    field(line, n - 2 * limits::FIELD_COLUMNS)
 }
 
 // What the fields of a strict line of n bytes are.
@@ -109,9 +116,9 @@ pub fn summed(line: &[u8], n: usize) -> Fields
     requires { ⌜ FieldsAsk (now line) n ⌝ }
     ensures { λ r. ⌜ SumsUp (fieldsOf (take n (now (line .entry)))) r ⌝ }
 {
-    let count = (n - tucson_lines::HEAD) / tucson_lines::FIELD;
-    let first = field(line, tucson_lines::HEAD);
-    let last = field(line, n - tucson_lines::FIELD);
+    let count = (n - limits::HEAD_COLUMNS) / limits::FIELD_COLUMNS;
+    let first = field(line, limits::HEAD_COLUMNS);
+    let last = field(line, n - limits::FIELD_COLUMNS);
     let before = field_before(line, count, n, first);
     Fields {
         count: count,
@@ -126,8 +133,8 @@ pub fn last_field(line: &[u8], n: usize) -> Ending
     requires { ⌜ FieldsAsk (now line) n ⌝ }
     ensures { λ r. ⌜ EndsWith (fieldsOf (take n (now (line .entry)))) r ⌝ }
 {
-    let count = (n - tucson_lines::HEAD) / tucson_lines::FIELD;
-    let last = field(line, n - tucson_lines::FIELD);
+    let count = (n - limits::HEAD_COLUMNS) / limits::FIELD_COLUMNS;
+    let last = field(line, n - limits::FIELD_COLUMNS);
     Ending {
         count: count,
         last: last,
@@ -193,8 +200,8 @@ fn is_like_closing(ahead: Ahead, fields: Fields) -> bool
         return false;
     }
     tucson_lines::both(
-        tucson_lines::same(ahead.closing, tucson_lines::THOUSANDTHS),
-        tucson_lines::same(last_width(last, fields), HUNDREDTHS),
+        tucson_lines::same(ahead.closing, units::THOUSANDTHS),
+        tucson_lines::same(last_width(last, fields), units::HUNDREDTHS),
     )
 }
 
@@ -284,7 +291,7 @@ fn put_closing(out: &mut [u8], at: usize, unit: u32) -> usize
     requires { ⌜ at < 2 ^ 62 ⌝ }
     ensures { λ r. ⌜ Puts 6 at (columns fieldColumns (closingOf unit)) (now (out .entry)) (now (out .exit)) r ⌝ }
 {
-    if unit == HUNDREDTHS_SAID {
+    if unit == units::HUNDREDTHS_SAID {
         return base_print::put_text(out, at, b"   999");
     }
     base_print::put_text(out, at, b" -9999")
@@ -300,10 +307,10 @@ pub fn put_strict(
     unit: u32,
 ) -> usize
     requires { ⌜ StrictAsks (now line) n at ⌝ }
-    ensures { λ r. ⌜ Puts 79 at (strictPut (now (line .entry)) n reclosed unit) (now (out .entry)) (now (out .exit)) r ⌝ }
+    ensures { λ r. ⌜ Puts bytesPerLine at (strictPut (now (line .entry)) n reclosed unit) (now (out .entry)) (now (out .exit)) r ⌝ }
 {
     if reclosed {
-        let front = n - tucson_lines::FIELD;
+        let front = n - limits::FIELD_COLUMNS;
         let a = base_print::put_text(out, at, &line[0..front]);
         let b = put_closing(out, a, unit);
         return base_print::put(out, b, b'\n');

@@ -12,13 +12,13 @@ use Rattle.base_text.specs.Bytes.{Text, newline}
 use Rattle.base_text.specs.Numeral.{decimal}
 use Rattle.base_text.proofs.Slice.{slice-take}
 use Rattle.spec_tucson.specs.Columns.{columns}
-use Rattle.spec_tucson.specs.Line.{yearColumns, fieldColumns, decade, thousandths, isName, yearInDecade}
+use Rattle.spec_tucson.specs.Line.{yearColumns, headColumns, fieldColumns, decade, thousandths, isName, yearInDecade}
 use Rattle.spec_tucson.specs.Writing.{leastYear, greatestYear, ontoFirst, inLines, linesFrom, seriesLines, fieldsText, lineText, linesText, allWidths}
 use Rattle.spec_tucson.proofs.Lines.{no-lines}
 use Rattle.theorems_tucson.proofs.Columns.{year-fits, fits-length, columns-length}
 use Rattle.theorems_tucson.proofs.Lines.{name-parts}
 use Rattle.theorems_tucson.proofs.InDecades.{widths-parts}
-use Rattle.tucson_series.specs.Sizes.{series, yearsLeft, yearAt, mostLeft, headBytes, lineBytes}
+use Rattle.tucson_series.specs.Sizes.{series, yearsLeft, yearAt, mostLeft, lineBytes}
 use Rattle.tucson_putting.specs.Putting.{line, begun, LineFits}
 use Rattle.tucson_series.proofs.Years.{year-at, year-dated, years-later-at, room-at}
 use Rattle.tucson_putting.proofs.Fields.{fields-append, fields-one, widths-take, widths-length}
@@ -32,7 +32,7 @@ pub closing-length : length (decimal thousandths) ≤ fieldColumns
 closing-length = fits-length 4 thousandths (omega arith)
 
 pub begun-length : (name : Text) (y : ℤ) (ws : List ℤ) → isName name ≡ true → between leastYear greatestYear y ≡ true → allWidths ws ≡ true
-    → length (begun name y ws) ≡ headBytes + length ws * fieldColumns
+    → length (begun name y ws) ≡ headColumns + length ws * fieldColumns
 begun-length name y ws n e a =
     length-append name (columns yearColumns y ++ fieldsText ws)
     ∙ omega (
@@ -45,7 +45,7 @@ begun-length name y ws n e a =
 
 -- the same of a line that fits
 pub begun-size : {name : Text} {y : ℤ} {ws : List ℤ} {bytes at room : ℕ} → LineFits name y ws bytes at room
-    → length (begun name y ws) ≡ headBytes + length ws * fieldColumns
+    → length (begun name y ws) ≡ headColumns + length ws * fieldColumns
 begun-size {name} {y} {ws} f = begun-length name y ws (f .named) (f .dated) (f .allowed)
 
 pub line-ends : (name : Text) (y : ℤ) (ws : List ℤ) → begun name y ws ++ (newline ∷ []) ≡ lineText (line name y ws)

@@ -5,20 +5,14 @@ ghost use Prim.Native.Nat.{_+_, _≤_};
 ghost use lib.ListN.{length, replicate};
 ghost use Rattle.base_text.specs.Numeral.{decimal};
 ghost use Rattle.spec_tucson.specs.Columns.{blank, columns};
-ghost use Rattle.spec_tucson.specs.Line.{fieldColumns, thousandths};
+ghost use Rattle.spec_tucson.specs.Line.{headColumns, fieldColumns, thousandths};
 ghost use Rattle.spec_tucson.specs.Writing.{fieldsText, lineText, linesText, seriesLines, written};
 ghost use Rattle.spec_tucson.specs.WriteCall.{seriesOf};
-ghost use Rattle.tucson_series.specs.Sizes.{series, headBytes, lineBytes, mostLeft, yearAt};
+ghost use Rattle.tucson_series.specs.Sizes.{series, lineBytes, mostLeft, yearAt};
 ghost use Rattle.tucson_putting.specs.Putting.{Wrote, NumberFits, FieldsFit, LineFits, SeriesFits, AllFit, line, begun};
 use base_outcome::limits;
-use tucson_series::writable::BLANK;
+use tucson_lines::units;
 use tucson_series::writable::GREATEST_YEAR;
-
-// The field that closes a series of thousandths.
-const THOUSANDTHS: i32 = -9999;
-
-// The byte that ends a line.
-const NEWLINE: u8 = 10;
 
 // So many blanks.
 fn put_blanks(text: &mut [u8], at: usize, count: usize) -> usize
@@ -28,7 +22,7 @@ fn put_blanks(text: &mut [u8], at: usize, count: usize) -> usize
     let mut next = at;
     let mut i = 0;
     while i < count {
-        next = base_print::put(text, next, BLANK);
+        next = base_print::put(text, next, b' ');
         i += 1;
     }
     next
@@ -73,7 +67,7 @@ fn put_fields(text: &mut [u8], at: usize, widths: &[i32]) -> usize
 
 // Name, year and widths of a line.
 fn put_begun(text: &mut [u8], at: usize, name: &[u8], year: i32, widths: &[i32]) -> usize
-    requires { ⌜ LineFits (now name) year (now widths) headBytes at (length (now text)) ⌝ }
+    requires { ⌜ LineFits (now name) year (now widths) headColumns at (length (now text)) ⌝ }
     ensures { λ r. ⌜ Wrote at (begun (now (name .entry)) year (now (widths .entry))) (now (text .entry)) (now (text .exit)) r ⌝ }
 {
     let a = base_print::put_text(text, at, name);
@@ -87,7 +81,7 @@ fn put_line(text: &mut [u8], at: usize, name: &[u8], year: i32, widths: &[i32]) 
     ensures { λ r. ⌜ Wrote at (lineText (line (now (name .entry)) year (now (widths .entry)))) (now (text .entry)) (now (text .exit)) r ⌝ }
 {
     let a = put_begun(text, at, name, year, widths);
-    base_print::put(text, a, NEWLINE)
+    base_print::put(text, a, b'\n')
 }
 
 // A series' last line: widths and the closing.
@@ -97,8 +91,8 @@ fn put_last_line(text: &mut [u8], at: usize, name: &[u8], year: i32, widths: &[i
         (now (text .exit)) r ⌝ }
 {
     let a = put_begun(text, at, name, year, widths);
-    let b = put_columns(text, a, limits::FIELD_COLUMNS, THOUSANDTHS);
-    base_print::put(text, b, NEWLINE)
+    let b = put_columns(text, a, limits::FIELD_COLUMNS, units::THOUSANDTHS);
+    base_print::put(text, b, b'\n')
 }
 
 // The year after which so many can be written.

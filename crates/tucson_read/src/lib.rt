@@ -13,8 +13,10 @@ ghost use Rattle.spec_tucson.specs.ReadCall.{readEnd};
 ghost use Rattle.base_outcome.specs.Machine.{reply};
 use base_outcome::Answer;
 use base_outcome::codes;
+use base_outcome::limits;
 use base_text::numeral::Field;
 use tucson_lines::LineAnswer;
+use tucson_lines::units;
 use tucson_scan::Scanned;
 
 // Thousandths in a hundredth.
@@ -29,14 +31,14 @@ fn fill(text: &[u8], from: usize, to: usize, n: usize, widths: &mut [i32], at: u
     let mut i = 0;
     let mut start = from;
     while i < n {
-        let field = tucson_lines::numeral(text, start, start + tucson_lines::FIELD);
+        let field = tucson_lines::numeral(text, start, start + limits::FIELD_COLUMNS);
         match field {
             Field::Bad => {
                 return;
             }
             Field::Numeral(z) => {
                 widths[at + i] = z;
-                start += tucson_lines::FIELD;
+                start += limits::FIELD_COLUMNS;
                 i += 1;
             }
         }
@@ -49,7 +51,7 @@ fn copy_name(text: &[u8], from: usize, names: &mut [u8], at: usize)
     ensures { λ r. ⌜ now (names .exit) ≡ sets (now (names .entry)) at (slice from (from + nameColumns) (now (text .entry))) ⌝ }
 {
     let mut i = 0;
-    while i < tucson_lines::NAME {
+    while i < limits::NAME_COLUMNS {
         names[at + i] = text[from + i];
         i += 1;
     }
@@ -73,7 +75,7 @@ fn convert(closing: i32, widths: &mut [i32], from: usize, to: usize)
     requires { ⌜ WidthsAt (now widths) from to ⌝ }
     ensures { λ r. ⌜ now (widths .exit) ≡ sets (now (widths .entry)) from (inThousandths closing (slice from to (now (widths .entry)))) ⌝ }
 {
-    if tucson_lines::same(closing, tucson_scan::HUNDREDTHS) {
+    if tucson_lines::same(closing, units::HUNDREDTHS) {
         scale(widths, from, to);
         return;
     }
@@ -94,7 +96,7 @@ fn enter(
     ensures { λ r. ⌜ Entered (now (text .entry)) from first count series (now (names .entry)) (now (years .entry)) (now (counts .entry))
         (now (names .exit)) (now (years .exit)) (now (counts .exit)) ⌝ }
 {
-    copy_name(text, from, names, series * tucson_lines::NAME);
+    copy_name(text, from, names, series * limits::NAME_COLUMNS);
     years[series] = first;
     counts[series] = count as u32;
 }
@@ -131,13 +133,13 @@ fn write(text: &[u8], names: &mut [u8], years: &mut [i32], counts: &mut [u32], w
             LineAnswer::Good(year, n, _, last) => {
                 first = first_year(begun, first, year);
                 if tucson_lines::goes_on(text, from, end) {
-                    fill(text, from + tucson_lines::HEAD, end, n, widths, at);
+                    fill(text, from + limits::HEAD_COLUMNS, end, n, widths, at);
                     at += n;
                     begun = true;
                     from = end + 1;
                     continue;
                 }
-                fill(text, from + tucson_lines::HEAD, end, n - 1, widths, at);
+                fill(text, from + limits::HEAD_COLUMNS, end, n - 1, widths, at);
                 at += n - 1;
                 convert(last, widths, start, at);
                 enter(text, from, first, at - start, names, years, counts, series);
@@ -168,7 +170,7 @@ pub fn read(
     match scanned {
         Scanned::Refused(code, place) => Answer::Refused(code, place),
         Scanned::Totals(series, total) => {
-            if names.len() / tucson_lines::NAME < series {
+            if names.len() / limits::NAME_COLUMNS < series {
                 return Answer::Refused(codes::SHORT_BUFFER, 0);
             }
             if years.len() < series {

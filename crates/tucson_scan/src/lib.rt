@@ -9,6 +9,7 @@ ghost use Rattle.tucson_lines.specs.Machine.{LineEnd};
 ghost use Rattle.tucson_scan.specs.Scan.{scanTold, ExtendAsks, GoodPassed, LinePassed};
 use base_outcome::codes;
 use tucson_lines::LineAnswer;
+use tucson_lines::units;
 
 // How many series and widths a text has, or a refusal's code and place.
 pub enum Scanned {
@@ -22,8 +23,6 @@ pub enum Passed {
     On(bool, usize, i32, bool),
     Refused(u8),
 }
-
-pub const HUNDREDTHS: i32 = 999;
 
 // Whether the year follows those of the series that is begun, if one is.
 fn follows(begun: bool, next: i32, year: i32) -> bool
@@ -58,7 +57,7 @@ pub fn extend(
         return Passed::Refused(codes::TUCSON_YEAR);
     }
     let before = tucson_lines::both(small, front);
-    let all = tucson_lines::both(before, last <= tucson_lines::HUNDREDTHS_LIMIT);
+    let all = tucson_lines::both(before, last <= units::HUNDREDTHS_LIMIT);
     Passed::On(true, n, year + n as i32, all)
 }
 
@@ -78,11 +77,11 @@ pub fn close(
     if !follows(begun, next, year) {
         return Passed::Refused(codes::TUCSON_YEAR);
     }
-    if tucson_lines::same(last, tucson_lines::THOUSANDTHS) {
+    if tucson_lines::same(last, units::THOUSANDTHS) {
         return Passed::On(false, n - 1, 0, true);
     }
     let all = tucson_lines::both(small, front);
-    if tucson_lines::both(tucson_lines::same(last, HUNDREDTHS), all) {
+    if tucson_lines::both(tucson_lines::same(last, units::HUNDREDTHS), all) {
         return Passed::On(false, n - 1, 0, true);
     }
     Passed::Refused(codes::TUCSON_CLOSING)

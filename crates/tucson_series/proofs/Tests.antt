@@ -1,4 +1,4 @@
--- The tests of names, widths and counts, one entry after another: a loop that has passed the first i entries has the test of
+-- The tests of widths and counts, one entry after another: a loop that has passed the first i entries has the test of
 -- the others before it.
 use mathlib.Core.Path.{_≡_, refl, sym, ap, _∙_}
 use mathlib.Core.Bool.{Bool, true, false, _&&_, and-false}
@@ -6,17 +6,15 @@ use mathlib.Core.List.{List, [], _∷_}
 use Prim.Native.Nat.{ℕ, _+_, _-_, _<_, _≤_}
 use native.Mathlib.Numerals.{add-one}
 use native.Mathlib.Omega.{arith}
-use borrow.Author.Tests.{le-leb, lt-leb, eq-eqb, ne-eqb, eqb-true, eqb-false}
-use lib.Dec.{eqb, leb}
+use borrow.Author.Tests.{eq-eqb, ne-eqb, eqb-true, eqb-false}
+use lib.Dec.{eqb}
 use lib.IntN.{ℤ, pos}
 use lib.ListN.{length, getD, take, drop, length-drop}
 use lib.Seq.{slice, drop-cons, drop-length, take-all}
 use lib.Signed.{ltZ}
 use Rattle.base_exact.proofs.Word.{leZ-not-ltZ}
-use Rattle.base_text.specs.Bytes.{Text}
 use Rattle.base_text.proofs.Slice.{slice-take}
-use Rattle.spec_tucson.specs.Columns.{blank}
-use Rattle.spec_tucson.specs.Line.{lastPrintable, widthLimit, allPrintable, allBlank, isWidth}
+use Rattle.spec_tucson.specs.Line.{widthLimit, isWidth}
 use Rattle.spec_tucson.specs.Writing.{allWidths}
 use Rattle.spec_tucson.specs.WriteCall.{total}
 
@@ -26,40 +24,6 @@ drop-step l i d h = drop-cons l i d h ∙ ap (λ (n : ℕ). getD l i d ∷ drop 
 
 pub drop-end : {A : Type 0} (l : List A) (i : ℕ) → length l ≤ i → i ≤ length l → drop i l ≡ []
 drop-end l i h k = ap (λ (n : ℕ). drop n l) (let e : i ≡ length l = omega arith in e) ∙ drop-length l
-
--- ---- names
-
-module _ (t : Text) (i : ℕ) (h : i < length t) where
-  printable-step : allPrintable (drop i t) ≡ (leb blank (getD t i 0) && leb (getD t i 0) lastPrintable && allPrintable (drop (i + 1) t))
-  unfolding allPrintable
-  printable-step = ap allPrintable (drop-step t i 0 h)
-
-  pub printable-next : blank ≤ getD t i 0 → getD t i 0 ≤ lastPrintable → allPrintable (drop i t) ≡ allPrintable (drop (i + 1) t)
-  printable-next a b = printable-step ∙ rw (le-leb blank (getD t i 0) a, le-leb (getD t i 0) lastPrintable b)
-
-  pub printable-low : getD t i 0 < blank → allPrintable (drop i t) ≡ false
-  printable-low a = printable-step ∙ rw (lt-leb blank (getD t i 0) a)
-
-  pub printable-high : lastPrintable < getD t i 0 → allPrintable (drop i t) ≡ false
-  printable-high a = printable-step ∙ simp (lt-leb (getD t i 0) lastPrintable a, and-false)
-
-  blank-step : allBlank (drop i t) ≡ (eqb (getD t i 0) blank && allBlank (drop (i + 1) t))
-  unfolding allBlank
-  blank-step = ap allBlank (drop-step t i 0 h)
-
-  pub blank-next : getD t i 0 ≡ blank → allBlank (drop i t) ≡ allBlank (drop (i + 1) t)
-  blank-next a = blank-step ∙ rw (eq-eqb (getD t i 0) blank a)
-
-  pub blank-ends : (getD t i 0 ≡ blank → ⊥) → allBlank (drop i t) ≡ false
-  blank-ends a = blank-step ∙ rw (ne-eqb (getD t i 0) blank a)
-
-pub printable-end : (t : Text) (i : ℕ) → length t ≤ i → i ≤ length t → allPrintable (drop i t) ≡ true
-unfolding allPrintable
-printable-end t i h k = ap allPrintable (drop-end t i h k)
-
-pub blank-end : (t : Text) (i : ℕ) → length t ≤ i → i ≤ length t → allBlank (drop i t) ≡ true
-unfolding allBlank
-blank-end t i h k = ap allBlank (drop-end t i h k)
 
 -- ---- widths
 

@@ -10,7 +10,7 @@ use lib.IntN.{ℤ, pos, natAbs, _-ℤ_}
 use lib.ListN.{length}
 use Rattle.base_outcome.specs.Tests.{between}
 use Rattle.base_text.specs.Bytes.{Text}
-use Rattle.spec_tucson.specs.Line.{nameColumns, yearColumns, fieldColumns, decade}
+use Rattle.spec_tucson.specs.Line.{nameColumns, headColumns, fieldColumns, decade}
 use Rattle.spec_tucson.specs.Series.{Series}
 use Rattle.spec_tucson.specs.Writing.{leastYear, greatestYear}
 
@@ -44,13 +44,9 @@ closingsFit (y ∷ ys) (n ∷ ns) = closingFits y n && closingsFit ys ns
 abbrev pub lineRoom : ℤ → ℕ
 lineRoom year = yearsLeft year % decade
 
--- The bytes of a line's name and year.
-abbrev pub headBytes : ℕ
-headBytes = nameColumns + yearColumns
-
 -- The bytes of a line beside its fields.
 abbrev pub lineBytes : ℕ
-lineBytes = headBytes + 1
+lineBytes = headColumns + 1
 
 -- The bytes of a series.
 unfoldable pub seriesBytes : ℤ → ℕ → ℕ

@@ -5,66 +5,15 @@ ghost use Prim.Native.Nat.{_+_};
 ghost use lib.Seq.{slice};
 ghost use Rattle.base_outcome.specs.Tests.{between};
 ghost use Rattle.base_outcome.specs.Machine.{found};
-ghost use Rattle.spec_tucson.specs.Line.{nameColumns, allPrintable, allBlank, isName};
+ghost use Rattle.spec_tucson.specs.Line.{nameColumns};
 ghost use Rattle.spec_tucson.specs.Writing.{leastYear, greatestYear, allWidths, isWritable, unwritable};
 ghost use Rattle.spec_tucson.specs.WriteCall.{listsFit, seriesOf};
 ghost use Rattle.tucson_series.specs.Sizes.{series, yearsLeft, closingFits, NameBehind};
 use base_outcome::limits;
 
-// The byte of an empty column, the first that is printable.
-pub const BLANK: u8 = 32;
-
-const LAST_PRINTABLE: u8 = 126;
-
 const LEAST_YEAR: i32 = -999;
 
 pub const GREATEST_YEAR: i32 = 9999;
-
-// Every byte is printable ASCII.
-fn all_printable(name: &[u8]) -> bool
-    ensures { λ r. ⌜ r ≡ allPrintable (now (name .entry)) ⌝ }
-{
-    let mut i = 0;
-    while i < name.len() {
-        let byte = name[i];
-        if byte < BLANK {
-            return false;
-        }
-        if byte > LAST_PRINTABLE {
-            return false;
-        }
-        i += 1;
-    }
-    true
-}
-
-// Every byte is a blank.
-fn all_blank(name: &[u8]) -> bool
-    ensures { λ r. ⌜ r ≡ allBlank (now (name .entry)) ⌝ }
-{
-    let mut i = 0;
-    while i < name.len() {
-        let byte = name[i];
-        if byte != BLANK {
-            return false;
-        }
-        i += 1;
-    }
-    true
-}
-
-// The name of a series.
-fn is_name(name: &[u8]) -> bool
-    ensures { λ r. ⌜ r ≡ isName (now (name .entry)) ⌝ }
-{
-    if name.len() != limits::NAME_COLUMNS {
-        return false;
-    }
-    if !all_printable(name) {
-        return false;
-    }
-    !all_blank(name)
-}
 
 // Every width is allowed.
 fn all_widths(widths: &[i32]) -> bool
@@ -112,9 +61,7 @@ fn is_writable(names: &[u8], before: usize, at: usize, year: i32, widths: &[i32]
     ensures { λ r. ⌜ r ≡ isWritable (slice before at (now (names .entry)))
         (series (slice at (at + nameColumns) (now (names .entry))) year (now (widths .entry))) ⌝ }
 {
-    let end = at + limits::NAME_COLUMNS;
-    let name = &names[at..end];
-    if !is_name(name) {
+    if !tucson_lines::is_name(names, at) {
         return false;
     }
     if !all_widths(widths) {
@@ -123,7 +70,8 @@ fn is_writable(names: &[u8], before: usize, at: usize, year: i32, widths: &[i32]
     if !years_fit(year, widths.len()) {
         return false;
     }
-    !base_text::fields::begins(names, before, at, name)
+    let end = at + limits::NAME_COLUMNS;
+    !base_text::fields::begins(names, before, at, &names[at..end])
 }
 
 // The first series that can't be written.

@@ -1,6 +1,6 @@
 -- What is shown of a line by its first 72 columns and the rest, with or without a site name; and the lengths of what is shown.
 use mathlib.Core.Path.{_≡_, refl, sym, _∙_, ap, ap₂}
-use mathlib.Core.Bool.{Bool, true, false, cond, _||_}
+use mathlib.Core.Bool.{Bool, true, false, cond, _||_, or-false as or-none}
 use mathlib.Core.List.{[], _∷_, _++_, append-nil}
 use Prim.Native.Nat.{ℕ, zero, suc, _+_, _-_, _<_, _≤_}
 use native.Mathlib.Omega.{arith}
@@ -8,7 +8,6 @@ use borrow.Author.Tests.{ne-eqb, eqb-true, eqb-false, lt-ltb, le-ltb, ltb-true, 
 use lib.Dec.{eqb, ltb}
 use lib.ListN.{length, getD, take, drop, replicate, length-append, drop-of-length-le}
 use lib.Seq.{slice, slice-empty, length-slice, length-take-le, take-at, drop-at}
-use Rattle.base_exact.proofs.Decide.{or-false}
 use Rattle.base_text.specs.Bytes.{Text, indexWhere}
 use Rattle.base_text.proofs.Slice.{slice-step}
 use Rattle.spec_tucson.specs.Columns.{blank}
@@ -16,7 +15,7 @@ use Rattle.spec_tucson.specs.FileText.{tab}
 use Rattle.spec_tucson.specs.Shown.{tabBlanks, expanded, trimmed, anyTab, inItsColumns, shown, isBlankLine, hasTrailing}
 use Rattle.spec_tucson.specs.StrictLine.{hasSite, withoutSite, lineColumns, isHigh, anyHigh}
 use Rattle.tucson_columns.specs.Machine.{cells, shownByte, StopTold, ShownTold, LineShown}
-use Rattle.tucson_columns.proofs.Shown.{slice-split, expanded-append, expanded-step, expanded-none, expanded-some}
+use Rattle.tucson_columns.proofs.Shown.{slice-split, expanded-append, expanded-step, expanded-none, expanded-some, expanded-plain}
 use Rattle.tucson_site.specs.Machine.{siteBehind}
 use Rattle.tucson_strict.proofs.Strict.{high-append}
 use Rattle.tucson_shown.specs.Machine.{FieldsAre, FieldsLong}
@@ -74,24 +73,11 @@ unfolding anyTab
 tab-end true text to = refl
 tab-end false text to = ap anyTab (slice-empty to text)
 
--- bytes without a tab are shown as they stand
-pub expanded-plain : (n : ℕ) (t : Text) → anyTab t ≡ false → expanded n t ≡ t
-unfolding expanded anyTab
-expanded-plain n [] e = refl
-expanded-plain n (c ∷ cs) e =
-    let both = or-false (eqb c tab) (anyTab cs) e in
-    ap (λ (b : Bool). cond b (replicate (tabBlanks n) blank ++ expanded (n + tabBlanks n) cs) (c ∷ expanded (suc n) cs)) (both .0)
-    ∙ ap (λ (t : Text). c ∷ t) (expanded-plain (suc n) cs (both .1))
-
 -- ---- bytes over 127
 blanks-low : (k : ℕ) → anyHigh (replicate k blank) ≡ false
 unfolding anyHigh
 blanks-low zero = refl
 blanks-low (suc k) = blanks-low k
-
-or-false-right : (b : Bool) → (b || false) ≡ b
-or-false-right true = refl
-or-false-right false = refl
 
 byte-high : (n c : ℕ) → anyHigh (shownByte n c) ≡ isHigh c
 unfolding anyHigh
@@ -99,7 +85,7 @@ byte-high n c = go (eqb c tab) refl
   where
     go : (b : Bool) → eqb c tab ≡ b → anyHigh (cond b (replicate (tabBlanks n) blank) (c ∷ [])) ≡ isHigh c
     go true e = blanks-low (tabBlanks n) ∙ sym (ap isHigh (eqb-true c tab e))
-    go false e = or-false-right (isHigh c)
+    go false e = or-none (isHigh c)
 
 pub high-shown : (n : ℕ) (t : Text) → anyHigh (expanded n t) ≡ anyHigh t
 unfolding anyHigh

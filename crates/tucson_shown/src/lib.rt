@@ -1,5 +1,4 @@
 // A line of a laboratory's file as it is shown, and the strict line that it is.
-ghost use mathlib.Core.Bool.{_||_};
 ghost use mathlib.Core.Path.{_≡_};
 ghost use Prim.Native.Nat.{_+_, _-_, _<_};
 ghost use lib.ListN.{length, take};
@@ -11,9 +10,6 @@ ghost use Rattle.tucson_lines.specs.Machine.{LineEnd};
 ghost use Rattle.tucson_columns.specs.Machine.{cells};
 ghost use Rattle.tucson_shown.specs.Machine.{StrictTold, CopyAsks, PlainAsks, PlainTold, ShowAsks, FrontTold, FitAsks, StrictAsks};
 use base_outcome::limits;
-
-// The most bytes that are shown of a strict line: eight characters of four bytes in its name, and 64 columns behind that.
-pub const SHOWN: usize = 96;
 
 // The strict line of a raw line: how many bytes are shown of it, how many it has, and whether a site name was taken off; or why it is
 // none: its columns, or bytes over 127.
@@ -28,8 +24,6 @@ enum Front {
     Fits(usize, bool),
     Long,
 }
-
-const TAB: u8 = 9;
 
 // Whether nothing is shown of the line from the one index up to the other.
 pub fn is_blank_line(text: &[u8], from: usize, end: usize) -> bool
@@ -46,15 +40,6 @@ pub fn has_return(text: &[u8], from: usize, end: usize) -> bool
     tucson_columns::line_stop(text, from, end) < end
 }
 
-fn either(a: bool, b: bool) -> bool
-    ensures { λ r. ⌜ r ≡ (a || b) ⌝ }
-{
-    if a {
-        return true;
-    }
-    b
-}
-
 // Whether the part has a tab. All its bytes are looked at, since many at once take fewer instructions than one after another.
 fn any_tab(text: &[u8], from: usize, to: usize) -> bool
     requires { ⌜ Range (now text) from to ⌝ }
@@ -63,7 +48,7 @@ fn any_tab(text: &[u8], from: usize, to: usize) -> bool
     let mut any = false;
     let mut i = from;
     while i < to {
-        any = either(any, text[i] == TAB);
+        any = tucson_lines::either(any, text[i] == b'\t');
         i += 1;
     }
     any
@@ -97,8 +82,8 @@ pub fn is_header_line(
     ensures { λ r. ⌜ r ≡ isHeaderLine (shown (slice first (past + 1) (now (text .entry)))) k
         (shown (slice from (end + 1) (now (text .entry)))) ⌝ }
 {
-    let mut head = [0; SHOWN];
-    let mut bytes = [0; SHOWN];
+    let mut head = [0; tucson_columns::CELLS];
+    let mut bytes = [0; tucson_columns::CELLS];
     tucson_caption::header_line(text, first, past, k, from, end, &mut head, &mut bytes)
 }
 
@@ -121,8 +106,8 @@ fn copy_cells(text: &[u8], from: usize, to: usize, bytes: &mut [u8])
     requires { ⌜ CopyAsks (now text) from to (now bytes) × (length (now bytes) ≡ cells) ⌝ }
     ensures { λ r. ⌜ take (to - from) (now (bytes .exit)) ≡ slice from to (now (text .entry)) ⌝ }
 {
-    if text.len() - from >= SHOWN {
-        copy(text, from, from + SHOWN, bytes);
+    if text.len() - from >= tucson_columns::CELLS {
+        copy(text, from, from + tucson_columns::CELLS, bytes);
         return;
     }
     copy(text, from, to, bytes);
@@ -161,7 +146,14 @@ fn show_columns(text: &[u8], from: usize, to: usize, bytes: &mut [u8]) -> Front
             true,
         );
     }
-    let whole = tucson_columns::expand(text, at, to, limits::LINE_COLUMNS, SHOWN, bytes);
+    let whole = tucson_columns::expand(
+        text,
+        at,
+        to,
+        limits::LINE_COLUMNS,
+        tucson_columns::CELLS,
+        bytes,
+    );
     if whole.at == to {
         return Front::Fits(whole.count, false);
     }
@@ -241,8 +233,8 @@ pub fn strict_line(
     text: &[u8],
     from: usize,
     end: usize,
-    bytes: &mut [u8; 96],
-    line: &mut [u8; 96],
+    bytes: &mut [u8; tucson_columns::CELLS],
+    line: &mut [u8; tucson_columns::CELLS],
 ) -> Strict
     requires { ⌜ LineEnd (now text) from end ⌝ }
     ensures { λ r. ⌜ StrictTold (slice from (end + 1) (now (text .entry))) r (now (bytes .exit)) (now (line .exit)) ⌝ }

@@ -17,13 +17,11 @@ use Rattle.spec_tucson.specs.FileText.{tab}
 use Rattle.spec_tucson.specs.Shown.{tabBlanks, expanded, anyTab}
 use Rattle.spec_tucson.specs.StrictLine.{isLetter, allLetters, lettersBefore, digitsBefore, blanksBefore, isSiteNumber, isSiteName}
 use Rattle.tucson_columns.specs.Machine.{isGap}
+use Rattle.spec_tucson.proofs.Lines.{refute}
+use Rattle.tucson_columns.proofs.Shown.{expanded-plain}
 use Rattle.tucson_site.specs.Machine.{gapBefore, siteBehind}
 
 -- ---- letters and digits alone
-refute : (b : Bool) → (b ≡ true → ⊥) → b ≡ false
-refute true h = absurd (h refl)
-refute false h = refl
-
 letter-no-gap : (c : ℕ) → isLetter c ≡ true → isGap c ≡ false
 letter-no-gap c e = ap₂ _||_ (ne-eqb c blank (λ z. true-not-false e (ap isLetter z))) (ne-eqb c tab (λ z. true-not-false e (ap isLetter z)))
 
@@ -69,17 +67,6 @@ lacks-no-tab (c ∷ t) e = let both = lacks-first isGap c t e in ap₂ _||_ (no-
   where
     no-tab : (c : ℕ) → isGap c ≡ false → eqb c tab ≡ false
     no-tab c e = refute (eqb c tab) (λ z. true-not-false (ap₂ _||_ (ne-eqb c blank (omega (arith, eqb-true c tab z))) z) e)
-
--- a text without tabs is shown as it is
-pub expanded-plain : (n : ℕ) (t : Text) → anyTab t ≡ false → expanded n t ≡ t
-unfolding expanded anyTab
-expanded-plain n [] e = refl
-expanded-plain n (c ∷ t) e = go (eqb c tab) e (expanded-plain (suc n) t)
-  where
-    go : (b : Bool) → (b || anyTab t) ≡ false → (anyTab t ≡ false → expanded (suc n) t ≡ t) →
-        cond b (replicate (tabBlanks n) blank ++ expanded (n + tabBlanks n) t) (c ∷ expanded (suc n) t) ≡ c ∷ t
-    go true e ih = absurd (true-not-false refl e)
-    go false e ih = ap (λ (u : Text). c ∷ u) (ih e)
 
 -- a tab is shown as blanks
 blanks-some : (k : ℕ) (t : Text) → 1 ≤ k → lacks isGap (replicate k blank ++ t) ≡ false

@@ -16,10 +16,11 @@ use Rattle.base_text.specs.Numeral.{numeral}
 use Rattle.base_text.proofs.Slice.{slice-step}
 use Rattle.base_text.proofs.Lacking.{lacks, lacks-append, lacks-first, Outside, numeral-lacks}
 use Rattle.spec_tucson.specs.Columns.{blank, inColumns}
-use Rattle.spec_tucson.specs.Line.{nameColumns, yearColumns, fieldColumns, decade, lastPrintable, allPrintable, allBlank, isName, withField, fieldNumerals}
+use Rattle.spec_tucson.specs.Line.{nameColumns, yearColumns, headColumns, fieldColumns, decade, lastPrintable, allPrintable, allBlank, isName, withField, fieldNumerals}
 use Rattle.spec_tucson.specs.Line.{fieldCount, columnsFit, withNumerals, lineInColumns}
 use Rattle.tucson_lines.proofs.Fields.{fields-first}
 use Rattle.spec_tucson.specs.StrictLine.{isSome, isStrict, isHigh, anyHigh, lineColumns}
+use Rattle.spec_tucson.proofs.Lines.{refute}
 
 -- ---- by its parts
 some-numerals : (name : Text) (y : Option ℤ) (fs : Option (List ℤ)) → isSome (withNumerals name y fs) ≡ (isSome y && isSome fs)
@@ -31,7 +32,7 @@ abbrev year : Text → Option ℤ
 year t = inColumns (take yearColumns (drop nameColumns t))
 
 abbrev fields : Text → Option (List ℤ)
-fields t = fieldNumerals (fieldCount t) (drop (nameColumns + yearColumns) t)
+fields t = fieldNumerals (fieldCount t) (drop headColumns t)
 
 pub strict-is : (t : Text) → isStrict t ≡ (columnsFit t && isName (take nameColumns t) && (isSome (year t) && isSome (fields t)))
 unfolding isStrict lineInColumns
@@ -82,10 +83,6 @@ take-longer zero (suc n) (c ∷ t) h i = omega arith
 take-longer (suc k) (suc n) (c ∷ t) h i = omega (arith, take-longer k n t (omega arith) (omega arith))
 
 -- a length that no strict line has
-refute : (b : Bool) → (b ≡ true → ⊥) → b ≡ false
-refute true h = absurd (h refl)
-refute false h = refl
-
 pub strict-short : (t : Text) → length t < 18 → isStrict t ≡ false
 strict-short t h = refute (isStrict t) (λ e. omega (arith, strict-size t e))
 
@@ -167,8 +164,8 @@ module _ (picks : ℕ → Bool) (o : Outside picks) (no-blank : picks blank ≡ 
   strict-lacks t e =
       let p = strict-parts t e in
       let f = fitting t (p .fit) in
-      let rest = drop (nameColumns + yearColumns) t in
-      let whole : take (fieldCount t * fieldColumns) rest ≡ rest = take-all (fieldCount t * fieldColumns) rest (omega (arith, f .size, length-drop (nameColumns + yearColumns) t)) in
+      let rest = drop headColumns t in
+      let whole : take (fieldCount t * fieldColumns) rest ≡ rest = take-all (fieldCount t * fieldColumns) rest (omega (arith, f .size, length-drop headColumns t)) in
       ap (lacks picks) (sym (take-append-drop yearColumns (drop nameColumns t)) ∙ ap (λ (u : Text). take yearColumns (drop nameColumns t) ++ u) (drop-drop yearColumns nameColumns t))
       ∙ lacks-append picks (take yearColumns (drop nameColumns t)) rest (columns-lack (take yearColumns (drop nameColumns t)) (p .dated))
       (ap (lacks picks) (sym whole) ∙ fields-lack (fieldCount t) rest (p .numbered))

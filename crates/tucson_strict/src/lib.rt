@@ -1,5 +1,4 @@
 // Whether the bytes at the front of an array are a strict line: a name, a year and one to ten fields, each in its columns.
-ghost use mathlib.Core.Bool.{_||_};
 ghost use mathlib.Core.Path.{_≡_};
 ghost use lib.ListN.{length, take};
 ghost use lib.Seq.{slice};
@@ -15,14 +14,8 @@ ghost use Rattle.tucson_strict.specs.Machine.{NegativeTold};
 use base_outcome::limits;
 use base_text::numeral::Field;
 
-// The columns of a line with ten fields.
-const LINE: usize = limits::LINE_COLUMNS;
-
 // The most digits of a numeral.
 const MOST_DIGITS: usize = 7;
-
-// The first byte that is not ASCII.
-const HIGH: u8 = 128;
 
 // Whether all bytes of the part are digits.
 fn all_digits(text: &[u8], from: usize, to: usize) -> bool
@@ -103,10 +96,10 @@ fn all_numerals(text: &[u8], from: usize, to: usize, n: usize) -> bool
     let mut at = from;
     let mut left = n;
     while left > 0 {
-        if !is_numeral(text, at, at + tucson_lines::FIELD) {
+        if !is_numeral(text, at, at + limits::FIELD_COLUMNS) {
             return false;
         }
-        at += tucson_lines::FIELD;
+        at += limits::FIELD_COLUMNS;
         left -= 1;
     }
     true
@@ -117,32 +110,23 @@ pub fn is_strict(bytes: &[u8], n: usize) -> bool
     requires { ⌜ length (now bytes) ≡ cells ⌝ }
     ensures { λ r. ⌜ r ≡ isStrict (take n (now (bytes .entry))) ⌝ }
 {
-    if n < tucson_lines::HEAD + tucson_lines::FIELD {
+    if n < limits::HEAD_COLUMNS + limits::FIELD_COLUMNS {
         return false;
     }
-    if n > LINE {
+    if n > limits::LINE_COLUMNS {
         return false;
     }
-    let fields = (n - tucson_lines::HEAD) / tucson_lines::FIELD;
-    if n != tucson_lines::HEAD + fields * tucson_lines::FIELD {
+    let fields = (n - limits::HEAD_COLUMNS) / limits::FIELD_COLUMNS;
+    if n != limits::HEAD_COLUMNS + fields * limits::FIELD_COLUMNS {
         return false;
     }
     if !tucson_lines::is_name(bytes, 0) {
         return false;
     }
-    if !is_numeral(bytes, tucson_lines::NAME, tucson_lines::HEAD) {
+    if !is_numeral(bytes, limits::NAME_COLUMNS, limits::HEAD_COLUMNS) {
         return false;
     }
-    all_numerals(bytes, tucson_lines::HEAD, n, fields)
-}
-
-fn either(a: bool, b: bool) -> bool
-    ensures { λ r. ⌜ r ≡ (a || b) ⌝ }
-{
-    if a {
-        return true;
-    }
-    b
+    all_numerals(bytes, limits::HEAD_COLUMNS, n, fields)
 }
 
 // Whether the part has a byte that is not ASCII. All its bytes are looked at, since many at once take fewer instructions than one after
@@ -154,7 +138,7 @@ pub fn any_high(text: &[u8], from: usize, to: usize) -> bool
     let mut any = false;
     let mut i = from;
     while i < to {
-        any = either(any, text[i] >= HIGH);
+        any = tucson_lines::either(any, text[i] >= tucson_columns::HIGH);
         i += 1;
     }
     any

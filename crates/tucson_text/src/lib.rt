@@ -47,7 +47,7 @@ fn rewrite(input: &[u8], out: &mut [u8; limits::TEXT_LIMIT]) -> usize
     match series {
         base_outcome::Answer::Refused(code, place) => base_print::refusal(code, place, out),
         base_outcome::Answer::Count(n) => {
-            let bytes = n * tucson_lines::NAME;
+            let bytes = n * limits::NAME_COLUMNS;
             let widths_read = sum(&counts[..n]);
             let text = tucson_write::write(
                 &names[..bytes],

@@ -23,12 +23,13 @@ use Rattle.spec_tucson.specs.CleanNotes.{Ahead, oneMore, ahead, noteIf, remarks
 use Rattle.tucson_notes.specs.Machine.{SumsUp, aheadOf, shownMarked, formMarked, marked, strictPut}
 use Rattle.tucson_notes.specs.declared.Fields.{Fields}
 use Rattle.tucson_notes.specs.declared.Marks.{Marks}
+use Rattle.spec_tucson.proofs.Kept.{ahead-some}
 use Rattle.tucson_walk.specs.declared.Series.{Series}
 use Rattle.tucson_walk.specs.declared.Walked.{Walked}
 use Rattle.tucson_walk.specs.declared.Turn.{Turn}
 use Rattle.tucson_walk.specs.Tracking.{aheadWith, Tracks}
 use Rattle.tucson_walk.specs.Walking.{Knows, Holds, Entered, LeaveTold, reclosing, marksOf, PutsKept, Took}
-use Rattle.tucson_walk.proofs.Tracking.{ahead-more, ahead-last, ahead-some, tracks-on}
+use Rattle.tucson_walk.proofs.Tracking.{ahead-more, ahead-last, tracks-on}
 
 -- ---- the last line of a series
 pub last-is : (unit : ℕ) (k : Kept) (ks : List Kept) → eqb (ahead unit (k ∷ ks) .count) 1 ≡ not (continues k ks)

@@ -3,7 +3,7 @@ use mathlib.Core.Path.{_≡_, refl, sym, _∙_, ap}
 use mathlib.Core.Bool.{Bool, true, false, cond}
 use mathlib.Core.List.{List, [], _∷_}
 use mathlib.Core.Option.{Option, some, none}
-use Prim.Native.Nat.{ℕ, zero, suc, _-_, _≤_}
+use Prim.Native.Nat.{ℕ, zero, suc, _-_}
 use native.Mathlib.Omega.{arith}
 use lib.IntN.{ℤ}
 use lib.ListN.{length}
@@ -12,6 +12,7 @@ use Rattle.spec_tucson.specs.TextReading.{lastField}
 use Rattle.spec_tucson.specs.StrictLine.{Kept}
 use Rattle.spec_tucson.specs.CleanSeries.{sameName, continues, fieldsOf, closingAfter}
 use Rattle.spec_tucson.specs.CleanNotes.{Ahead, oneMore, ahead}
+use Rattle.spec_tucson.proofs.Kept.{ahead-some}
 use Rattle.tucson_walk.specs.Tracking.{Begins, GoesOn, aheadWith, Tracks}
 
 -- ---- what stands ahead of a line
@@ -26,14 +27,6 @@ pub ahead-last : (unit : ℕ) (k : Kept) (ks : List Kept) → continues k ks ≡
 unfolding ahead
 ahead-last unit k ks e = ap (λ (b : Bool). cond b (oneMore (ahead unit ks))
     (aheadWith 1 (closingAfter unit (lastField (fieldsOf (k .text)))) (length (fieldsOf (k .text))))) e
-
-pub ahead-some : (unit : ℕ) (k : Kept) (ks : List Kept) → 1 ≤ ahead unit (k ∷ ks) .count
-unfolding ahead
-ahead-some unit k ks = go (continues k ks)
-  where
-    go : (b : Bool) → 1 ≤ cond b (oneMore (ahead unit ks)) (aheadWith 1 (closingAfter unit (lastField (fieldsOf (k .text)))) (length (fieldsOf (k .text)))) .count
-    go true = omega arith
-    go false = omega arith
 
 -- ---- one line further
 

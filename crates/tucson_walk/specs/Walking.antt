@@ -11,7 +11,7 @@ use lib.Seq.{slice}
 use Rattle.base_outcome.specs.Outcome.{answer}
 use Rattle.base_print.specs.Buffer.{Puts}
 use Rattle.base_text.specs.Bytes.{Text}
-use Rattle.spec_tucson.specs.Line.{linesOf, same}
+use Rattle.spec_tucson.specs.Line.{headColumns, fieldColumns, linesOf, same}
 use Rattle.spec_tucson.specs.Shown as lines-shown
 use Rattle.spec_tucson.specs.Shown.{isBlankLine, hasEnd, hasReturn, hasTab, hasTrailing}
 use Rattle.spec_tucson.specs.StrictLine.{hasSite, lineColumns, shownFields, Kept}
@@ -21,7 +21,7 @@ use Rattle.spec_tucson.specs.CleanNotes.{ahead, isCutLine, keptNotes, headerNot
 use Rattle.spec_tucson.specs.CleanNotes.{notesOf}
 use Rattle.spec_tucson.specs.CleanCall.{atStart}
 use Rattle.tucson_lines.specs.Machine.{LineEnd}
-use Rattle.tucson_notes.specs.Machine.{SumsUp, aheadOf, marked, strictPut}
+use Rattle.tucson_notes.specs.Machine.{SumsUp, aheadOf, marked, bytesPerLine, cellsPerLine, strictPut}
 use Rattle.tucson_notes.specs.declared.Ahead as machine-ahead
 use Rattle.tucson_notes.specs.declared.Fields as machine-fields
 use Rattle.tucson_notes.specs.declared.Marks as machine-marks
@@ -103,17 +103,18 @@ pub record FarFrom (w : Walked) : Type 0 where
 -- A strict line, and such indices.
 pub record KeptAsks (line : Text) (w : Walked) : Type 0 where
   pub short : length line ≤ lineColumns
-  pub long : 18 ≤ length line
+  pub long : headColumns + fieldColumns ≤ length line
   pub near : FarFrom w
 
 -- The strict line, its number and its notes are put.
 pub record PutsKept (line : Text) (number unit : ℕ) (m : machine-marks.Marks) (first : Bool) (s : Series) (f : machine-fields.Fields)
     (w : Walked)
     (out outAfter : Text) (lines linesAfter notes notesAfter : List ℕ) (r : Walked) : Type 0 where
-  pub text-put : Puts 79 (w .bytes) (strictPut line (length line) (m .reclosed) unit) out outAfter (r .bytes)
+  pub text-put : Puts bytesPerLine (w .bytes) (strictPut line (length line) (m .reclosed) unit) out outAfter (r .bytes)
   pub line-put : Puts 1 (w .lines) (number ∷ []) lines linesAfter (r .lines)
   pub notes-put : (fs : List ℤ) → SumsUp fs f
-      → Puts 22 (w .cells) (atLine number (marked m (remarks (s .first) first (aheadOf (s .ahead)) fs))) notes notesAfter (r .cells)
+      → Puts cellsPerLine (w .cells) (atLine number (marked m (remarks (s .first) first (aheadOf (s .ahead)) fs)))
+      notes notesAfter (r .cells)
 
 -- ---- one raw line
 
@@ -124,9 +125,9 @@ pub record Walks (unit h : ℕ) (text : Text) (from i : ℕ) (b : Before) (ks : 
 
 -- The indices go on by no more than a line takes.
 pub record NearTo (w r : Walked) : Type 0 where
-  pub bytes-near : r .bytes ≤ w .bytes + 79
+  pub bytes-near : r .bytes ≤ w .bytes + bytesPerLine
   pub lines-near : r .lines ≤ w .lines + 1
-  pub cells-near : r .cells ≤ w .cells + 22
+  pub cells-near : r .cells ≤ w .cells + cellsPerLine
 
 abbrev pub numbersOf : List Kept → List ℕ
 numbersOf ks = map (λ k. k .line) ks
@@ -138,13 +139,13 @@ pub record Stepped (unit h : ℕ) (early : Bool) (text : Text) (from past i : �
   pub others : List Kept
   pub walks : Walks unit h text past (i + 1) later others (r .series)
   pub bytes : Text
-  pub bytes-put : Puts 79 (w .bytes) bytes out outAfter (r .walked .bytes)
+  pub bytes-put : Puts bytesPerLine (w .bytes) bytes out outAfter (r .walked .bytes)
   pub bytes-are : strictText (closedLines unit ks) ≡ bytes ++ strictText (closedLines unit others)
   pub numbers : List ℕ
   pub numbers-put : Puts 1 (w .lines) numbers lines linesAfter (r .walked .lines)
   pub numbers-are : numbersOf (closedLines unit ks) ≡ numbers ++ numbersOf (closedLines unit others)
   pub cells : List ℕ
-  pub cells-put : Puts 22 (w .cells) cells notes notesAfter (r .walked .cells)
+  pub cells-put : Puts cellsPerLine (w .cells) cells notes notesAfter (r .walked .cells)
   pub cells-are : notesOf unit h early i b (linesOf (drop from text)) ks ≡ cells
       ++ notesOf unit h early (i + 1) later (linesOf (drop past text)) others
 
@@ -175,9 +176,9 @@ pub record Took (unit : ℕ) (early : Bool) (b : Before) (k : Kept) (ks : List K
   pub closing : ℤ
   pub closing-is : closing ≡ closingOr (b .closing) (ahead unit (k ∷ ks) .closing)
   pub holds : Holds unit (behind closing k) ks (r .series)
-  pub bytes-put : Puts 79 (t .walked .bytes) (withEnd (reclosed unit (continues k ks) (k .text))) out outAfter (r .walked .bytes)
+  pub bytes-put : Puts bytesPerLine (t .walked .bytes) (withEnd (reclosed unit (continues k ks) (k .text))) out outAfter (r .walked .bytes)
   pub number-put : Puts 1 (t .walked .lines) (k .line ∷ []) lines linesAfter (r .walked .lines)
-  pub cells-put : Puts 22 (t .walked .cells)
+  pub cells-put : Puts cellsPerLine (t .walked .cells)
       (atLine (k .line) (lineNotes early (k .raw) (keptNotes unit closing (not (followsIts (b .kept) k)) (ahead unit (k ∷ ks)) k)))
       notes notesAfter (r .walked .cells)
 
@@ -200,13 +201,14 @@ pub record WalkAsks (text : Text) (at : ℕ) : Type 0 where
 -- All that is put, and that it is no more than so many lines take.
 pub record WalkedAll (unit h : ℕ) (early : Bool) (text : Text) (at : ℕ) (ks : List Kept)
     (out outAfter : Text) (lines linesAfter notes notesAfter : List ℕ) (r : Walked) : Type 0 where
-  pub bytes-put : Puts (79 * (length (linesOf text) + 1)) 0 (strictText (closedLines unit ks)) out outAfter (r .bytes)
+  pub bytes-put : Puts (bytesPerLine * (length (linesOf text) + 1)) 0 (strictText (closedLines unit ks)) out outAfter (r .bytes)
   pub numbers-put : Puts (length (linesOf text) + 1) 0 (numbersOf (closedLines unit ks)) lines linesAfter (r .lines)
-  pub cells-put : Puts (22 * (length (linesOf text) + 1)) at (notesOf unit h early 1 atStart (linesOf text) ks) notes notesAfter (r .cells)
+  pub cells-put : Puts (cellsPerLine * (length (linesOf text) + 1)) at (notesOf unit h early 1 atStart (linesOf text) ks)
+      notes notesAfter (r .cells)
 
 -- What is told of the walk: how far the notes go at most, and what is put where all lines are strict lines.
 pub record WalkTold (unit h : ℕ) (early : Bool) (text : Text) (at : ℕ) (out outAfter : Text) (lines linesAfter notes notesAfter : List ℕ)
     (r : Walked) : Type 0 where
-  pub near : r .cells ≤ at + 22 * (length text + 1)
+  pub near : r .cells ≤ at + cellsPerLine * (length text + 1)
   pub told : (ks : List Kept) → keptLines h 1 none (linesOf text) ≡ answer ks
       → WalkedAll unit h early text at ks out outAfter lines linesAfter notes notesAfter r

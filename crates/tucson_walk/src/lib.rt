@@ -10,11 +10,13 @@ ghost use Rattle.spec_tucson.specs.StrictLine.{isStrict};
 ghost use Rattle.spec_tucson.specs.KeptLines.{sameText};
 ghost use Rattle.spec_tucson.specs.CleanNotes.{atLine};
 ghost use Rattle.tucson_lines.specs.Machine.{LineEnd};
+ghost use Rattle.tucson_notes.specs.Machine.{cellsPerLine};
 ghost use Rattle.tucson_walk.specs.Skipping.{SkipTold};
 ghost use Rattle.tucson_walk.specs.Following.{FollowAsks, DiffersTold, Follows, LastAhead, AheadAsks, AheadTold};
 ghost use Rattle.tucson_walk.specs.Walking.{EnterTold, LeaveTold, reclosing, marksOf, otherNotes, OtherAsks, KeptAsks, PutsKept};
 ghost use Rattle.tucson_walk.specs.Walking.{TakeAsks, TakeTold, TurnAsks, TurnTold, WalkAsks, WalkTold};
 use base_outcome::limits;
+use tucson_lines::units;
 use tucson_notes::Ahead;
 use tucson_notes::Fields;
 use tucson_notes::Marks;
@@ -55,10 +57,6 @@ pub struct Turn {
     pub walked: Walked,
 }
 
-const NAME: usize = limits::NAME_COLUMNS;
-
-const UNKNOWN_UNIT: i32 = -999;
-
 // The first line from this index on that is not blank, or an index past the text.
 fn skip_blank(text: &[u8], from: usize) -> Unblank
     requires { ⌜ from ≤ length (now text) + 1 ⌝ }
@@ -80,7 +78,7 @@ fn same_name(line: &[u8], next: &[u8]) -> bool
     requires { ⌜ (nameColumns ≤ length (now line)) × (nameColumns ≤ length (now next)) ⌝ }
     ensures { λ r. ⌜ r ≡ sameText (take nameColumns (now (line .entry))) (take nameColumns (now (next .entry))) ⌝ }
 {
-    tucson_names::same_text(&line[..NAME], &next[..NAME])
+    tucson_names::same_text(&line[..limits::NAME_COLUMNS], &next[..limits::NAME_COLUMNS])
 }
 
 // Whether the line from this index on has another name, by its first byte that differs: a plain one behind plain ones, and no blank.
@@ -89,7 +87,7 @@ fn differs(text: &[u8], past: usize, line: &[u8]) -> bool
     ensures { λ r. ⌜ DiffersTold (now (text .entry)) past (now (line .entry)) r ⌝ }
 {
     let mut i = 0;
-    while i < NAME {
+    while i < limits::NAME_COLUMNS {
         let at = past + i;
         if at >= text.len() {
             return false;
@@ -109,7 +107,12 @@ fn differs(text: &[u8], past: usize, line: &[u8]) -> bool
 }
 
 // The line from this index on that goes on with the series of the line with this name, at the front of an array.
-fn follow(text: &[u8], past: usize, line: &[u8], next: &mut [u8; 96]) -> Following
+fn follow(
+    text: &[u8],
+    past: usize,
+    line: &[u8],
+    next: &mut [u8; tucson_columns::CELLS],
+) -> Following
     requires { ⌜ FollowAsks (now text) past (now line) ⌝ }
     ensures { λ r. ⌜ Follows (now (text .entry)) past (now (line .entry)) (now (next .exit)) r ⌝ }
 {
@@ -131,7 +134,7 @@ fn follow(text: &[u8], past: usize, line: &[u8], next: &mut [u8; 96]) -> Followi
     if at >= text.len() {
         return none;
     }
-    let mut shown = [0; 96];
+    let mut shown = [0; tucson_columns::CELLS];
     let strict = tucson_shown::strict_line(text, at, end, &mut shown, next);
     match strict {
         Strict::Malformed => none,
@@ -162,7 +165,13 @@ fn last_ahead(line: &[u8], count: usize, unit: u32) -> Ahead
 }
 
 // What stands ahead of a strict line in its series, by the lines from this index on.
-fn series_ahead(text: &[u8], past: usize, line: [u8; 96], n: usize, unit: u32) -> Ahead
+fn series_ahead(
+    text: &[u8],
+    past: usize,
+    line: [u8; tucson_columns::CELLS],
+    n: usize,
+    unit: u32,
+) -> Ahead
     requires { ⌜ AheadAsks (now text) past line n ⌝ }
     ensures { λ r. ⌜ AheadTold unit (now (text .entry)) past line n r ⌝ }
 {
@@ -171,7 +180,7 @@ fn series_ahead(text: &[u8], past: usize, line: [u8; 96], n: usize, unit: u32) -
     let mut at = past;
     let mut count = 1;
     loop {
-        let mut next = [0; 96];
+        let mut next = [0; tucson_columns::CELLS];
         let found = follow(text, at, &old[..size], &mut next);
         if !found.found {
             return last_ahead(&old[..size], count, unit);
@@ -194,7 +203,14 @@ fn first_closing(s: Series, closing: i32) -> i32
 }
 
 // What is known of the series at a strict line, by the lines from this index on.
-fn enter(text: &[u8], past: usize, line: [u8; 96], n: usize, unit: u32, s: Series) -> Series
+fn enter(
+    text: &[u8],
+    past: usize,
+    line: [u8; tucson_columns::CELLS],
+    n: usize,
+    unit: u32,
+    s: Series,
+) -> Series
     requires { ⌜ AheadAsks (now text) past line n ⌝ }
     ensures { λ r. ⌜ EnterTold unit (now (text .entry)) past line n s r ⌝ }
 {
@@ -233,8 +249,11 @@ fn leave(s: Series) -> Series
 fn is_reclosed(last: bool, closing: i32, unit: u32) -> bool
     ensures { λ r. ⌜ r ≡ reclosing unit last closing ⌝ }
 {
-    let unknown = tucson_lines::same(closing, UNKNOWN_UNIT);
-    tucson_lines::both(last, tucson_lines::both(unknown, unit != 0))
+    let unknown = tucson_lines::same(closing, units::UNKNOWN_UNIT);
+    tucson_lines::both(
+        last,
+        tucson_lines::both(unknown, unit != units::UNIT_NOT_SAID),
+    )
 }
 
 // What was changed in a line.
@@ -274,7 +293,7 @@ fn put_other(
     at: usize,
 ) -> usize
     requires { ⌜ OtherAsks (now text) from end at ⌝ }
-    ensures { λ r. ⌜ Puts 22 at (atLine number (otherNotes early (slice from (end + 1) (now (text .entry))))) (now (notes .entry))
+    ensures { λ r. ⌜ Puts cellsPerLine at (atLine number (otherNotes early (slice from (end + 1) (now (text .entry))))) (now (notes .entry))
         (now (notes .exit)) r ⌝ }
 {
     let marks = marks_of(text, from, end, early, false, false, false);
@@ -334,7 +353,7 @@ fn take_line(
     number: usize,
     unit: u32,
     shown: &[u8],
-    line: [u8; 96],
+    line: [u8; tucson_columns::CELLS],
     n: usize,
     site: bool,
     t: Turn,
@@ -404,8 +423,8 @@ fn step(
             },
         };
     }
-    let mut shown = [0; 96];
-    let mut line = [0; 96];
+    let mut shown = [0; tucson_columns::CELLS];
+    let mut line = [0; tucson_columns::CELLS];
     let strict = tucson_shown::strict_line(text, from, end, &mut shown, &mut line);
     match strict {
         Strict::Malformed => t,

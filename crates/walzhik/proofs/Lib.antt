@@ -1,4 +1,1 @@
--- The crate's hand-written modules.
-pub mod Reached
-pub mod Struct
-pub mod Parts
+-- Each proof stands in its function's folder; no law is shared.

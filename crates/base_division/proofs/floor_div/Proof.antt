@@ -2,18 +2,13 @@
 use native.Mathlib.Omega.{arith}
 use mir.ValLaws.{toZ-ofZ, sfits-le}
 use mir.Syntax.{w64}
-use mir.Val.{SFits, ofZ}
-use Prim.Native.Nat.{_<_}
+use mir.Val.{SFits}
 use lib.IntN.{ℤ, pos, negsuc, natAbs, _-ℤ_}
 use lib.Signed.{mag, mag-shr, quotZ, _<ℤ_, _≤ℤ_}
-use Rattle.base_exact.proofs.Word.{ltZ-true, ltZ-false, flip, quot-mag, quot-floor, flip-floor}
-use Rattle.base_exact.proofs.Integer.{≤-in, <-out}
+use Rattle.base_exact.proofs.Word.{ltZ-true, ltZ-false, flip, quot-mag, quot-floor, flip-floor, ofZ-pos}
+use Rattle.base_exact.proofs.Integer.{≤-in}
 use Rattle.base_division.proofs.floor_div.Statement.{statement}
 use Rattle.base_division.proofs.floor_div.Tie as tie
-
-divisor : (d : ℤ) → pos 0 <ℤ d → 0 < ofZ w64 d
-divisor (pos d) h = omega (arith, <-out (pos 0) (pos d) h)
-divisor (negsuc d) h = absurd (omega (arith, <-out (pos 0) (negsuc d) h))
 
 module _ (c : tie.Then1) where
   abbrev a : ℤ
@@ -23,7 +18,7 @@ module _ (c : tie.Then1) where
   d = c .before .args .d
 
   below : a <ℤ pos 0
-  below = let f = c .before .fits .a in ltZ-true _ _ (simp toZ-ofZ at (c .if1 .taken))
+  below = ltZ-true _ _ (simp (toZ-ofZ, c .before .fits .a) at (c .if1 .taken))
 
   turned-fits : SFits w64 (negsuc 0 -ℤ a)
   turned-fits = rw (flip a below) (record { sfits = c .before .fits .a .sfits })
@@ -39,44 +34,27 @@ module _ (c : tie.Then1) where
 
 module _ (c : tie.Else1) where
   above : pos 0 ≤ℤ c .before .args .a
-  above = let f = c .before .fits .a in ltZ-false _ _ (simp toZ-ofZ at (c .if1 .left))
+  above = ltZ-false _ _ (simp (toZ-ofZ, c .before .fits .a) at (c .if1 .left))
 
   above-fits : SFits w64 (quotZ (c .before .args .a) (c .before .args .d))
   above-fits = sfits-le (quot-mag (c .before .args .a) (c .before .args .d) above (c .before .pre)) (c .before .fits .a)
 
 div-result : tie.Need-div-result
-div-result c =
-    let f = c .before .fits .a in
-    let g = c .before .fits .d in
-    let h = turned-fits c in
-    (divisor _ (c .before .pre), simp toZ-ofZ (quotient-fits c))
+div-result c = (ofZ-pos w64 _ (c .before .pre), simp (toZ-ofZ, c .before .fits .a, c .before .fits .d, turned-fits c) (quotient-fits c))
 
 sub-result-2 : tie.Need-sub-result-2
-sub-result-2 c =
-    let f = c .before .fits .a in
-    let g = c .before .fits .d in
-    let h = turned-fits c in
-    let k = quotient-fits c in
-    simp toZ-ofZ (floor-fits c)
+sub-result-2 c = simp (toZ-ofZ, c .before .fits .a, c .before .fits .d, turned-fits c, quotient-fits c) (floor-fits c)
 
 div-result-2 : tie.Need-div-result-2
-div-result-2 c = let f = c .before .fits .a in let g = c .before .fits .d in (divisor _ (c .before .pre), simp toZ-ofZ (above-fits c))
+div-result-2 c = (ofZ-pos w64 _ (c .before .pre), simp (toZ-ofZ, c .before .fits .a, c .before .fits .d) (above-fits c))
 
 returns : tie.Need-returns
 returns c =
-    let f = c .before .fits .a in
-    let g = c .before .fits .d in
-    let h = turned-fits c in
-    let k = quotient-fits c in
-    let l = floor-fits c in
-    simp toZ-ofZ (flip-floor _ _ (below c) (c .before .pre))
+    simp (toZ-ofZ, c .before .fits .a, c .before .fits .d, turned-fits c, quotient-fits c, floor-fits c)
+    (flip-floor _ _ (below c) (c .before .pre))
 
 returns-2 : tie.Need-returns-2
-returns-2 c =
-    let f = c .before .fits .a in
-    let g = c .before .fits .d in
-    let h = above-fits c in
-    simp toZ-ofZ (quot-floor _ _ (above c) (c .before .pre))
+returns-2 c = simp (toZ-ofZ, c .before .fits .a, c .before .fits .d, above-fits c) (quot-floor _ _ (above c) (c .before .pre))
 
 pub floor-div-spec : {M : Type 1} → statement M
 floor-div-spec =

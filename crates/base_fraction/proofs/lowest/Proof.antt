@@ -67,18 +67,15 @@ module _ (c : tie.After-gcd) where
   lowest-terms = fraction-ratio n d g (c .before .before .pre) g-is
 
 div-t7 : tie.Need-div-t7
-div-t7 c = let f = c .before .before .fits .n in (g-pos c, simp (toZ-ofZ, toZ-pos w64 (c .gcd .result) (g-small c)) (num-fits c))
+div-t7 c = (g-pos c, simp (toZ-ofZ, toZ-pos w64 (c .gcd .result) (g-small c), c .before .before .fits .n) (num-fits c))
 
 div-t8 : tie.Need-div-t8
-div-t8 c = let f = c .before .before .fits .d in (g-pos c, simp (toZ-ofZ, toZ-pos w64 (c .gcd .result) (g-small c)) (den-fits c))
+div-t8 c = (g-pos c, simp (toZ-ofZ, toZ-pos w64 (c .gcd .result) (g-small c), c .before .before .fits .d) (den-fits c))
 
 returns : tie.Need-returns
 returns c =
-    let f = c .before .before .fits .n in
-    let h = c .before .before .fits .d in
-    let k = num-fits c in
-    let l = den-fits c in
-    simp (toZ-ofZ, toZ-pos w64 (c .gcd .result) (g-small c)) (lowest-terms c)
+    simp (toZ-ofZ, toZ-pos w64 (c .gcd .result) (g-small c), c .before .before .fits .n, c .before .before .fits .d, num-fits c, den-fits c)
+    (lowest-terms c)
 
 pub lowest-spec : {M : Type 1} → statement M
 lowest-spec =

@@ -7,8 +7,7 @@ use native.Mathlib.Nat.{le-of-lt}
 use lib.IntN.{ℤ, pos, negℤ, natAbs, _-ℤ_, _*ℤ_, +ℤ-idl}
 use mir.Syntax.{w64}
 use mir.Val.{SFits}
-use mir.ValLaws.{toZ-ofZ}
-use Rattle.base_exact.proofs.Word.{sfits-abs, abs-mul-le, abs-sub}
+use Rattle.base_exact.proofs.Word.{toZ-ofZ, sfits-abs, abs-mul-le, abs-sub}
 use Rattle.build_scales.proofs.Sizes.{signedBinomial, signed-binomial-le}
 use Rattle.build_conditions.proofs.Terms.{scale-left, scale-right}
 use Rattle.build_conditions.proofs.entry.Statement.{statement}
@@ -38,10 +37,8 @@ module _ (c : tie.After-struct-told) where
 returns : tie.Need-returns
 returns c =
     let a = c .before .before .before .before .args in
-    let f = left-fits c in
-    let g = b-fits c in
-    let h = term-fits c in
-    simp toZ-ofZ (ap (λ (z : ℤ). a .sides .left *ℤ z) (c .before .before .signed-binomial .ensures) ∙ sym (scale-left (a .sides .left) (a .sides .right) (a .k) (a .e) (omega arith)))
+    simp (toZ-ofZ, left-fits c, b-fits c, term-fits c)
+    (ap (λ (z : ℤ). a .sides .left *ℤ z) (c .before .before .signed-binomial .ensures) ∙ sym (scale-left (a .sides .left) (a .sides .right) (a .k) (a .e) (omega arith)))
 
 module _ (c : tie.After-struct-told2) where
   abbrev right : ℤ
@@ -69,19 +66,13 @@ module _ (c : tie.After-struct-told2) where
 
 sub-result : tie.Need-sub-result
 sub-result c =
-    let f = right-fits c in
-    let g = d-fits c in
-    let h = product-fits c in
-    simp toZ-ofZ (sfits-abs (omega (arith, size c, abs-sub (pos 0) (right c *ℤ d c), abs-sub (right c *ℤ d c) (pos 0))))
+    simp (toZ-ofZ, right-fits c, d-fits c, product-fits c)
+    (sfits-abs (omega (arith, size c, abs-sub (pos 0) (right c *ℤ d c), abs-sub (right c *ℤ d c) (pos 0))))
 
 returns-2 : tie.Need-returns-2
 returns-2 c =
     let a = c .before .before .before .before .args in
-    let f = right-fits c in
-    let g = d-fits c in
-    let h = product-fits c in
-    let i = negated-fits c in
-    simp toZ-ofZ (
+    simp (toZ-ofZ, right-fits c, d-fits c, product-fits c, negated-fits c) (
     +ℤ-idl (negℤ (right c *ℤ d c))
     ∙ ap (λ (z : ℤ). negℤ (right c *ℤ z)) (c .before .before .signed-binomial2 .ensures)
     ∙ sym (scale-right (a .sides .left) (a .sides .right) (a .k) (a .e) (omega arith)))

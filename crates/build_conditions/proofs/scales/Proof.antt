@@ -9,11 +9,10 @@ use lib.Dec.{T}
 use lib.Signed.{quotZ, nonNeg, _≤ℤ_}
 use mir.Syntax.{w64}
 use mir.Val.{SFits, Fits}
-use mir.ValLaws.{toZ-ofZ, toZ-pos}
 use Rattle.base_exact.specs.Gcd.{gcd}
 use Rattle.base_exact.proofs.Gcd.{gcd-pos, gcd-le}
 use Rattle.base_exact.proofs.Integer.{≤-in}
-use Rattle.base_exact.proofs.Word.{sfits-abs, quot-fits}
+use Rattle.base_exact.proofs.Word.{toZ-ofZ, toZ-pos, sfits-abs, quot-fits}
 use Rattle.spec_spline.specs.Space.{Space}
 use Rattle.spec_spline.specs.Conditions.{scale}
 use Rattle.spec_spline.proofs.Conditions.{scale-pos}
@@ -68,27 +67,23 @@ scale-requires : tie.Need-scale-requires
 scale-requires c κs =
     let l = left-length (c .before .before .before) in
     let r = right-length (c .before .before .before) in
-    let f = l .fits in
-    let g = r .fits in
-    simp toZ-ofZ (search needs)
+    simp (toZ-ofZ, l .fits, r .fits) (search needs)
 
 scale-requires-2 : tie.Need-scale-requires-2
 scale-requires-2 c κs =
     let s = c .before .before .before .before .before in let l = left-length s in
     let r = right-length s in
-    let f = l .fits in
-    let g = r .fits in
-    simp toZ-ofZ (search needs)
+    simp (toZ-ofZ, l .fits, r .fits) (search needs)
 
 module _ (c : tie.After-scale2) where
   abbrev start : tie.Start
   start = c .before .before .before .before .before .before
 
   left-is : c .before .before .scale .result ≡ pos (a start)
-  left-is = let f = left-length start .fits in let g = right-length start .fits in simp toZ-ofZ at (c .before .before .scale .ensures)
+  left-is = simp (toZ-ofZ, left-length start .fits, right-length start .fits) at (c .before .before .scale .ensures)
 
   right-is : c .scale2 .result ≡ pos (b start)
-  right-is = let f = left-length start .fits in let g = right-length start .fits in simp toZ-ofZ at (c .scale2 .ensures)
+  right-is = simp (toZ-ofZ, left-length start .fits, right-length start .fits) at (c .scale2 .ensures)
 
   left-word : SFits w64 (c .before .before .scale .result)
   left-word = record { sfits = c .before .before .scale .ok }
@@ -103,20 +98,10 @@ module _ (c : tie.After-scale2) where
   right-cast = rw right-is (tt, omega (arith, b-le start))
 
 cast-gcd : tie.Need-cast-gcd
-cast-gcd c =
-    let f = left-word c in
-    let g = right-word c in
-    let p = left-cast c in
-    let q = right-cast c in
-    simp toZ-ofZ (search needs)
+cast-gcd c = simp (toZ-ofZ, left-word c, right-word c) (left-cast c)
 
 cast-gcd-2 : tie.Need-cast-gcd-2
-cast-gcd-2 c =
-    let f = left-word c in
-    let g = right-word c in
-    let p = left-cast c in
-    let q = right-cast c in
-    simp toZ-ofZ (search needs)
+cast-gcd-2 c = simp (toZ-ofZ, left-word c, right-word c) (right-cast c)
 
 module _ (c : tie.After-gcd) where
   abbrev first : tie.Start
@@ -127,9 +112,8 @@ module _ (c : tie.After-gcd) where
 
   g-is : g ≡ gcd (a first) (b first)
   g-is =
-      let f = left-word (c .before) in
-      let h = right-word (c .before) in
-      (simp toZ-ofZ at (c .gcd .ensures)) ∙ ap₂ (λ x y. gcd (natAbs x) (natAbs y)) (left-is (c .before)) (right-is (c .before))
+      (simp (toZ-ofZ, left-word (c .before), right-word (c .before)) at (c .gcd .ensures))
+      ∙ ap₂ (λ x y. gcd (natAbs x) (natAbs y)) (left-is (c .before)) (right-is (c .before))
 
   g-pos : 0 < g
   g-pos = rw g-is (gcd-pos (a first) (b first) (b-pos first))
@@ -144,12 +128,12 @@ module _ (c : tie.After-gcd) where
   right-quotient = quot-fits w64 (c .before .scale2 .result) g g-pos (right-word (c .before))
 
 div-t11 : tie.Need-div-t11
-div-t11 c = let f = left-word (c .before) in (omega (arith, g-pos c), simp (toZ-ofZ, toZ-pos w64 (c .gcd .result) (g-small c)) (left-quotient c))
+div-t11 c = (omega (arith, g-pos c), simp (toZ-ofZ, toZ-pos w64 (c .gcd .result) (g-small c), left-word (c .before)) (left-quotient c))
 
 div-t12 : tie.Need-div-t12
-div-t12 c = let f = right-word (c .before) in (
+div-t12 c = (
   omega (arith, g-pos c),
-  simp (toZ-ofZ, toZ-pos w64 (c .gcd .result) (g-small c))
+  simp (toZ-ofZ, toZ-pos w64 (c .gcd .result) (g-small c), right-word (c .before))
       (quot-fits w64 (c .before .scale2 .result) _ (omega (arith, g-pos c)) (right-word (c .before))),
 )
 
@@ -157,11 +141,8 @@ returns : tie.Need-returns
 returns c = λ s j i.
     let e = scaled (first c) s j i in
     let d = g-is c ∙ ap₂ gcd (e .0) (e .1) in
-    let f = left-word (c .before) in
-    let h = right-word (c .before) in
-    let l = left-quotient c in
-    let r = right-quotient c in
-    simp (toZ-ofZ, toZ-pos w64 (c .gcd .result) (g-small c)) (record {
+    let p = toZ-pos w64 (c .gcd .result) (g-small c) in
+    simp (toZ-ofZ, p, left-word (c .before), right-word (c .before), left-quotient c, right-quotient c) (record {
       left-is = ap₂ (λ z n. quotZ z (pos n)) (left-is (c .before) ∙ ap pos (e .0)) d;
       right-is = ap₂ (λ z n. quotZ z (pos n)) (right-is (c .before) ∙ ap pos (e .1)) d;
     })

@@ -5,9 +5,8 @@ use Prim.Native.Nat.{ℕ}
 use native.Mathlib.Omega.{arith}
 use lib.IntN.{pos}
 use mir.Syntax.{w64}
-use mir.ValLaws.{toZ-ofZ}
 use Rattle.base_exact.specs.Rational.{ℚ, int, _+ᵠ_, _*ᵠ_}
-use Rattle.base_exact.proofs.Word.{ofZ-inj, sfits-abs, sfits-nat}
+use Rattle.base_exact.proofs.Word.{toZ-ofZ, ofZ-inj, sfits-abs, sfits-nat}
 use Rattle.base_fraction.specs.Machine.{value}
 use Rattle.base_fraction.proofs.Value.{value-int, value-zero}
 use Rattle.spec_spline.specs.Step.{count}

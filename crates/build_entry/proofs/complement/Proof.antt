@@ -30,22 +30,15 @@ difference-fits : (s : tie.Start) → SFits w64 (s .args .w .den -ℤ s .args .w
 difference-fits s = let z = fitted (s .args .w) (s .pre) in sub-fits (s .args .w .den) (s .args .w .num) (z .den-small) (z .num-small)
 
 sub-t2 : tie.Need-sub-t2
-sub-t2 c =
-    let s = c .before .before in
-    let z = fitted (s .args .w) (s .pre) in
-    let f = num-fits z in
-    let g = den-fits z in
-    simp toZ-ofZ (difference-fits s)
+sub-t2 c = let s = c .before .before in let z = fitted (s .args .w) (s .pre) in simp (toZ-ofZ, num-fits z, den-fits z) (difference-fits s)
 
 returns : tie.Need-returns
 unfolding value
 returns c =
     let s = c .before .before .before in
     let z = fitted (s .args .w) (s .pre) in
-    let f = num-fits z in
-    let g = den-fits z in
-    let h = difference-fits s in
-    simp toZ-ofZ (ratio-one-minus (s .args .w .num) (s .args .w .den) (z .den-pos), record { num-small = small (s .args .w) (s .pre); den-pos = z .den-pos; den-small = z .den-small })
+    simp (toZ-ofZ, num-fits z, den-fits z, difference-fits s)
+    (ratio-one-minus (s .args .w .num) (s .args .w .den) (z .den-pos), record { num-small = small (s .args .w) (s .pre); den-pos = z .den-pos; den-small = z .den-small })
 
 pub complement-spec : {M : Type 1} → statement M
 complement-spec = tie.close (tie.spec sub-t2 returns)

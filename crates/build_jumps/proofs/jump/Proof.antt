@@ -90,7 +90,6 @@ add-product-requires c κs =
     let f = p .join-fits in
     let t = p .table in
     let h = p .held in
-    let x = read-fits c in
     let l = c .before .before .before .before .loop .inv in
     let weight : FractionFits (c .before .read .result) = rw (weight-is c (f .space) (f .index) (f .is) t h)
     (fits-sized (cell t (start c .args .at) (this c (f .space) (f .index) (f .is) .column))
@@ -98,7 +97,7 @@ add-product-requires c κs =
     record {
       sum-fits = l .fitted;
       weight-fits = weight;
-      condition-small = simp toZ-ofZ (rw (condition-is c (f .space) (f .index) (f .is)) (entry-small f (place c)));
+      condition-small = simp (toZ-ofZ, read-fits c) (rw (condition-is c (f .space) (f .index) (f .is)) (entry-small f (place c)));
       sum-lowest = l .lowest;
     }
 
@@ -116,8 +115,7 @@ module _ (c : tie.After-add-product Inv-loop μ-loop) (s : Space) (j : ℕ) (t :
 
   more-is : c .add-product .result ≡ counted more
   more-is =
-      let x = read-fits (c .before) in
-      (simp toZ-ofZ at (c .add-product .ensures j))
+      (simp (toZ-ofZ, read-fits (c .before)) at (c .add-product .ensures j))
       ∙ ap₂ (λ q z. counted (count j (q *ᵠ int z) then λ p. count j (value (sum (c .before)) +ᵠ p))) (ap value (weight-is (c .before) s j i t h) ∙ value-fraction _) (condition-is (c .before) s j i)
 
   more-sized : (f : Fraction) → c .add-product .result ≡ Fits f → FractionFits f

@@ -1,6 +1,6 @@
 -- `build_limits::check` meets its contract: the lengths, then the chain from the breakpoints on. Assumes nothing.
 use borrow.Author.Needs.{needs}
-use mathlib.Core.Path.{_≡_, sym, ap, _∙_}
+use mathlib.Core.Path.{sym, ap, _∙_}
 use Rattle.base_outcome.specs.Machine.{legality}
 use Rattle.base_outcome.proofs.Machine.{refusal-refused}
 use Rattle.spec_spline.specs.Space.{Space}

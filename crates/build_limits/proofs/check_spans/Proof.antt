@@ -1,7 +1,7 @@
 -- `build_limits::check_spans` meets its contract: the end of the part that the search found is refused, then the degrees. Assumes nothing.
 use borrow.Author.Needs.{needs}
 use native.Mathlib.Omega.{arith}
-use mathlib.Core.Path.{_≡_, sym, ap, _∙_}
+use mathlib.Core.Path.{sym, ap, _∙_}
 use Rattle.base_outcome.specs.declared.Legality.the-variants.{Refused}
 use Rattle.base_outcome.specs.Outcome.{capped}
 use Rattle.base_outcome.proofs.Search.{first-some-inverts}

@@ -193,17 +193,15 @@ module _ (m : tie.After-mix-row Inv-loop μ-loop) (t : Table) (j : ℕ) (qs : Li
   })
       ≡ entry qs (at-loop m .loop .i - start m .args .f)
   w-is =
-      let n = wn-fits (m .before .before .before .before) in
-      let d = wd-fits (m .before .before .before .before) in
-      simp toZ-ofZ (ap value (fraction-at qs _ e (at-loop m .loop .i - start m .args .f)
+      simp (toZ-ofZ, wn-fits (m .before .before .before .before), wd-fits (m .before .before .before .before))
+      (ap value (fraction-at qs _ e (at-loop m .loop .i - start m .args .f)
       (let r = room (turn m) in omega arith)) ∙ value-fraction _)
 
   u-is : value (m .before .before .before .complement .result) ≡ int (pos 1) -ᵠ entry qs (suc (at-loop m .loop .i - start m .args .f))
   u-is =
-      let n = vn-fits (m .before .before .before .before) in
-      let d = vd-fits (m .before .before .before .before) in
       m .before .before .before .complement .ensures .0
-      ∙ ap (λ x. int (pos 1) -ᵠ x) (simp toZ-ofZ (ap value (fraction-at qs _ e (at-loop m .loop .i - start m .args .f + 1)
+      ∙ ap (λ x. int (pos 1) -ᵠ x) (simp (toZ-ofZ, vn-fits (m .before .before .before .before), vd-fits (m .before .before .before .before))
+      (ap value (fraction-at qs _ e (at-loop m .loop .i - start m .args .f + 1)
       (let r = room (turn m) in omega arith)) ∙ value-fraction _
       ∙ ap (entry qs) (add-one (at-loop m .loop .i - start m .args .f))))
 
@@ -235,10 +233,8 @@ loop-holds c = record {
 complement-requires : tie.Need-complement-requires Inv-loop μ-loop
 complement-requires c κs =
     let u = here c .before .pre .1 in
-    let n = vn-fits c in
-    let k = vd-fits c in
-    let r = room (c .before .before .before .before) in
-    simp toZ-ofZ (record { of = _; is = fraction-at (u .of) _ (u .is) (d c + 1) (omega arith); fit = u .fit _; low = u .low _; high = u .high _ })
+    simp (toZ-ofZ, vn-fits c, vd-fits c, room (c .before .before .before .before))
+    (record { of = _; is = fraction-at (u .of) _ (u .is) (d c + 1) (omega arith); fit = u .fit _; low = u .low _; high = u .high _ })
 
 mix-row-requires : tie.Need-mix-row-requires Inv-loop μ-loop
 mix-row-requires c κs =
@@ -249,9 +245,7 @@ mix-row-requires c κs =
     let u = s .pre .1 in
     let k = s .pre .0 .1 .1 in
     let b = room r in
-    let n = wn-fits x in
-    let q = wd-fits x in
-    simp toZ-ofZ (
+    simp (toZ-ofZ, wn-fits x, wd-fits x) (
       (subst FractionFits (sym (fraction-at (u .of) _ (u .is) (d x) (omega arith))) (fits-sized _ (u .fit _)), (c .before .before .complement .ensures .1, (omega arith, b .columns-fit))),
       (_, holds (k .holds) (k .shaped) (v .passed) (omega arith) (v .state (k .table) 0 (u .of) (k .holds) (k .shaped) (u .is))),
     )

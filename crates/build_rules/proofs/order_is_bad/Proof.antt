@@ -20,10 +20,7 @@ q-fits : (c : tie.After-q) → let s = c .before .before .before .before .before
 q-fits c = record { sfits = c .q .given }
 
 returns-3 : tie.Need-returns-3
-returns-3 c =
-    let f = r-fits (c .before .before .before .before) in
-    let g = p-fits (c .before) in
-    bad-order-left _ _ (simp toZ-ofZ at (c .if3 .taken))
+returns-3 c = bad-order-left _ _ (simp (toZ-ofZ, r-fits (c .before .before .before .before), p-fits (c .before)) at (c .if3 .taken))
 
 returns-4 : tie.Need-returns-4
 returns-4 c =

@@ -4,16 +4,14 @@ use borrow.Author.Needs.{needs}
 use borrow.Author.Tests.{not-true, not-false}
 use native.Mathlib.Omega.{arith}
 use mathlib.Core.Bool.{Bool}
-use mathlib.Core.List.{[]}
 use mathlib.Core.Path.{_≡_, sym, _∙_, ap}
-use Prim.Native.Nat.{ℕ, _<_, _≤_}
-use lib.IntN.{ℤ, pos, natAbs, _-ℤ_}
+use Prim.Native.Nat.{ℕ, _<_}
+use lib.IntN.{ℤ, pos, _-ℤ_}
 use lib.ListN.{length, getD}
 use lib.Signed.{ltZ}
 use mir.Syntax.{w32, w64}
 use mir.Val.{SFits}
-use mir.ValLaws.{toZ-ofZ}
-use Rattle.base_exact.proofs.Word.{sfits-abs, abs-sfits, sfits-widen, abs-sub}
+use Rattle.base_exact.proofs.Word.{toZ-ofZ, sfits-abs, abs-sfits, sfits-widen, abs-sub}
 use Rattle.spec_spline.specs.Space.{Space, startsPart, partEnd}
 use Rattle.spec_spline.proofs.Parts.{part-ends}
 use Rattle.build_space.specs.Machine.{space}

@@ -7,8 +7,7 @@ use lib.IntN.{ℤ, pos, negsuc, natAbs, _*ℤ_}
 use lib.Signed.{_≤ℤ_}
 use mir.Syntax.{w64}
 use mir.Val.{SFits}
-use mir.ValLaws.{toZ-ofZ}
-use Rattle.base_exact.proofs.Word.{is-pos, sfits-abs, abs-mul-le}
+use Rattle.base_exact.proofs.Word.{toZ-ofZ, is-pos, sfits-abs, abs-mul-le}
 use Rattle.build_scales.proofs.power.Statement.{statement}
 use Rattle.build_scales.proofs.power.Tie as tie
 

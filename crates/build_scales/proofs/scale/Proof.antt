@@ -5,8 +5,7 @@ use mathlib.Core.Path.{_≡_, ap₂}
 use lib.IntN.{pos, natAbs, _*ℤ_}
 use mir.Syntax.{w64}
 use mir.Val.{SFits}
-use mir.ValLaws.{toZ-ofZ}
-use Rattle.base_exact.proofs.Word.{sfits-abs}
+use Rattle.base_exact.proofs.Word.{toZ-ofZ, sfits-abs}
 use Rattle.spec_spline.specs.Conditions.{scale}
 use Rattle.build_scales.proofs.Sizes.{scale-le}
 use Rattle.build_scales.proofs.scale.Statement.{statement}

@@ -6,9 +6,8 @@ use Prim.Native.Nat.{_-_}
 use lib.IntN.{ℤ, pos, negsuc, negℤ, _-ℤ_, _*ℤ_, +ℤ-idl}
 use mir.Syntax.{w64}
 use mir.Val.{SFits}
-use mir.ValLaws.{toZ-ofZ}
 use Rattle.base_exact.proofs.Integer.{*-one, *-comm, neg-is}
-use Rattle.base_exact.proofs.Word.{sfits-abs}
+use Rattle.base_exact.proofs.Word.{toZ-ofZ, sfits-abs}
 use Rattle.spec_spline.specs.Conditions.{binomial}
 use Rattle.build_scales.proofs.Sizes.{alternating-even, alternating-odd, signedBinomial, signed-binomial-le}
 use Rattle.build_scales.proofs.signed_binomial.Statement.{statement}

@@ -2,9 +2,8 @@
 use borrow.Author.Needs.{needs}
 use native.Mathlib.Omega.{arith}
 use mathlib.Core.Path.{sym, subst}
-use mir.ValLaws.{toZ-ofZ}
 use lib.Ieee.{Float, binary64, mul, ofInt}
-use Rattle.base_exact.proofs.Word.{abs-sfits}
+use Rattle.base_exact.proofs.Word.{toZ-ofZ, abs-sfits}
 use Rattle.curve_drawing.specs.Floats.{Is}
 use Rattle.curve_drawing.proofs.Floats.{cast-is, scale-is, scaled-is}
 use Rattle.curve_drawing.proofs.scaled.Statement.{statement}

@@ -1,8 +1,7 @@
 -- The cast of a 32-bit number is exact. Assumes nothing.
 use borrow.Author.Needs.{needs}
 use native.Mathlib.Omega.{arith}
-use mir.ValLaws.{toZ-ofZ}
-use Rattle.base_exact.proofs.Word.{abs-sfits}
+use Rattle.base_exact.proofs.Word.{toZ-ofZ, abs-sfits}
 use Rattle.curve_drawing.proofs.Floats.{cast-is}
 use Rattle.curve_drawing.proofs.whole.Statement.{statement}
 use Rattle.curve_drawing.proofs.whole.Tie as tie

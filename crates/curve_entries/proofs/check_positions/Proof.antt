@@ -9,8 +9,7 @@ use lib.IntN.{ℤ, pos, _*ℤ_}
 use lib.ListN.{length, getD}
 use mir.Syntax.{w32}
 use mir.Val.{SFits, ofZ, toZ}
-use mir.ValLaws.{toZ-ofZ}
-use Rattle.base_exact.proofs.Word.{sfits-abs, abs-mul-le}
+use Rattle.base_exact.proofs.Word.{toZ-ofZ, sfits-abs, abs-mul-le}
 use Rattle.base_outcome.specs.Outcome.{refusal}
 use Rattle.base_outcome.specs.Search.{first}
 use Rattle.spec_spline.specs.Reading.{fine}

@@ -9,9 +9,8 @@ use lib.ListN.{getD}
 use lib.Signed.{_<ℤ_}
 use mir.Syntax.{w32, w64}
 use mir.Val.{SFits, ofZ}
-use mir.ValLaws.{toZ-ofZ}
 use Rattle.base_exact.specs.Rational
-use Rattle.base_exact.proofs.Word.{sfits-widen, ofZ-inj, sfits-abs}
+use Rattle.base_exact.proofs.Word.{toZ-ofZ, sfits-widen, ofZ-inj, sfits-abs}
 use Rattle.base_exact.proofs.Integer.{<-in}
 use Rattle.base_fraction.proofs.Size.{fits-den}
 use Rattle.spec_spline.specs.Table.{cell}
@@ -100,11 +99,7 @@ d-fits c = record { sfits = c .d .given }
 with-term-requires : tie.Need-with-term-requires Inv-loop μ-loop
 with-term-requires c κs =
     let l = c .before .before .before .before in
-    let e = a-fits-32 l in
-    let f = a-fits l in
-    let g = x-fits (c .before .before .before) in
-    let h = d-fits c in
-    simp toZ-ofZ (record {
+    simp (toZ-ofZ, a-fits-32 l, a-fits l, x-fits (c .before .before .before), d-fits c) (record {
       coefficient-small = a-small l;
       den-short = d-small l;
       den-positive = d-positive l;
@@ -117,12 +112,9 @@ more : (c : tie.After-with-term Inv-loop μ-loop) → let l = c .before .before 
     GatheredTo l (c .with-term .result) (row l + 1)
 more c =
     let l = c .before .before .before .before .before in
-    let e = a-fits-32 l in
-    let f = a-fits l in
-    let g = x-fits (c .before .before .before .before) in
-    let h = d-fits (c .before) in
     gathered-more _ _ _ _ (row l) (row-within l) (start l .pre .column-within) (l .before .loop .all) (l .before .loop .inv .1)
-    (c .with-term .result) (λ z. c .before .before .before .if1 .taken (ap (ofZ w64) z)) (simp toZ-ofZ at (c .with-term .ensures))
+    (c .with-term .result) (λ z. c .before .before .before .if1 .taken (ap (ofZ w64) z))
+    (simp (toZ-ofZ, a-fits-32 l, a-fits l, x-fits (c .before .before .before .before), d-fits (c .before)) at (c .with-term .ensures))
 
 -- a row without
 skip : (c : tie.Else1 Inv-loop μ-loop) → let l = c .before .before in GatheredTo l (l .before .loop .all) (row l + 1)

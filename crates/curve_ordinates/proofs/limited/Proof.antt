@@ -5,9 +5,8 @@ use mathlib.Core.Path.{sym, _∙_}
 use lib.IntN.{pos, _*ℤ_}
 use mir.Syntax.{w64}
 use mir.Val.{SFits}
-use mir.ValLaws.{toZ-ofZ}
 use Rattle.base_exact.proofs.Decide.{not-true, not-false}
-use Rattle.base_exact.proofs.Word.{sfits-abs, abs-mul-le}
+use Rattle.base_exact.proofs.Word.{toZ-ofZ, sfits-abs, abs-mul-le}
 use Rattle.curve_ordinates.proofs.Bounds.{limits-unknown, limits-below, limits-above}
 use Rattle.curve_ordinates.proofs.limited.Statement.{statement}
 use Rattle.curve_ordinates.proofs.limited.Tie as tie

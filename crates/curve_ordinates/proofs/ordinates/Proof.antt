@@ -9,10 +9,9 @@ use lib.ListN.{length, set, drop, length-set}
 use lib.Seq.{drop-length}
 use mir.Syntax.{w32, w64}
 use mir.Val.{SFits, ofZ, toZ}
-use mir.ValLaws.{toZ-ofZ}
 use Rattle.base_exact.specs.Tabulate.{tab}
 use Rattle.base_exact.proofs.Tabulate.{tab-none, tab-more}
-use Rattle.base_exact.proofs.Word.{sfits-abs}
+use Rattle.base_exact.proofs.Word.{toZ-ofZ, sfits-abs}
 use Rattle.spec_spline.specs.Table.{Table}
 use Rattle.spec_spline.specs.Reading.{coefficient, ordinate, atLeast, atMost}
 use Rattle.spec_spline.specs.CurveCall.{coefficientLimit}

@@ -8,9 +8,8 @@ use lib.IntN.{ℤ, pos, natAbs, _+ℤ_, _*ℤ_}
 use lib.Signed.{leZ}
 use mir.Syntax.{w64}
 use mir.Val.{SFits, ofZ, toZ}
-use mir.ValLaws.{toZ-ofZ}
 use Rattle.base_exact.specs.Floor.{nearest}
-use Rattle.base_exact.proofs.Word.{sfits-abs, abs-add, abs-mul-le, pos-of}
+use Rattle.base_exact.proofs.Word.{toZ-ofZ, sfits-abs, abs-add, abs-mul-le, pos-of}
 use Rattle.spec_spline.specs.Reading.{fine, rounded, preferred}
 use Rattle.curve_ordinates.specs.Ordinates.{given, ordinateLimit}
 use Rattle.curve_ordinates.proofs.Bounds.{term-abs}
@@ -45,12 +44,8 @@ module _ (s : tie.Start) where
 
 round-div-requires : tie.Need-round-div-requires
 round-div-requires c κs =
-    let f = c .fits .a in
-    let g = c .fits .num in
-    let h = c .fits .den in
-    let k = scaled-fits c in
-    let l = product-fits c in
-    simp toZ-ofZ (omega (arith, product-abs c), (c .pre .den-positive, omega (arith, c .pre .den-short)))
+    simp (toZ-ofZ, c .fits .a, c .fits .num, c .fits .den, scaled-fits c, product-fits c)
+    (omega (arith, product-abs c), (c .pre .den-positive, omega (arith, c .pre .den-short)))
 
 module _ (c : tie.After-round-div) where
   -- the nearest number is the rounded term
@@ -58,11 +53,8 @@ module _ (c : tie.After-round-div) where
   unfolding rounded
   divided =
       let s = c .before in
-      let f = s .fits .a in
-      let g = s .fits .num in
-      let h = scaled-fits s in
-      let k = product-fits s in
-      let e : word (word (pos 256 *ℤ word (s .args .a)) *ℤ word (s .args .num)) ≡ pos 256 *ℤ s .args .a *ℤ s .args .num = simp toZ-ofZ in
+      let e : word (word (pos 256 *ℤ word (s .args .a)) *ℤ word (s .args .num)) ≡ pos 256 *ℤ s .args .a *ℤ s .args .num =
+      simp (toZ-ofZ, s .fits .a, s .fits .num, scaled-fits s, product-fits s) in
       c .round-div .ensures ∙ ap₂ (λ (a b : ℤ). nearest a (natAbs b)) e (toZ-ofZ w64 (s .args .den) (s .fits .den))
 
   summed : c .before .args .before .sum +ℤ c .round-div .result ≡ c .before .args .before .sum +ℤ term (c .before)
@@ -80,8 +72,7 @@ module _ (c : tie.After-round-div) where
   result-fits = record { sfits = c .round-div .ok }
 
 add-t8 : tie.Need-add-t8
-add-t8 c =
-    let d = c .before .before .before .before .before .before in let f = before-fits d in let g = result-fits d in simp toZ-ofZ (sum-fits d)
+add-t8 c = let d = c .before .before .before .before .before .before in simp (toZ-ofZ, before-fits d, result-fits d) (sum-fits d)
 
 -- the least and the greatest before, as they were passed on
 least-fits : (c : tie.After-struct-told) → SFits w64 (c .before .before .args .before .least)
@@ -99,12 +90,9 @@ returns c =
     let known = s .args .before .some in
     let least = least-fits b in
     let greatest = greatest-fits (c .before .before .before) in
-    let e = before-fits d in
-    let f = result-fits d in
-    let k = sum-fits d in
     record {
       is-some = refl;
-      is-sum = simp toZ-ofZ (summed d);
+      is-sum = simp (toZ-ofZ, before-fits d, result-fits d, sum-fits d) (summed d);
       is-least = toZ-ofZ w64 (l .result) (record { sfits = l .ok }) ∙ l .ensures
           ∙ ap₂ (λ (y z : ℤ). preferred leZ (given known y) z) (toZ-ofZ w64 _ least) (toZ-ofZ w64 _ (s .fits .a));
       is-greatest = toZ-ofZ w64 (g .result) (record { sfits = g .ok }) ∙ g .ensures

@@ -3,59 +3,23 @@
 use borrow.Author.Needs.{needs}
 use native.Mathlib.Omega.{arith}
 use mathlib.Core.Path.{_≡_}
-use Prim.Native.Nat.{ℕ, _+_, _-_, _*_, _<_, _≤_}
+use Prim.Native.Nat.{ℕ, _+_, _≤_}
 use lib.ListN.{length}
 use Rattle.spec_spline.specs.Space.{Space, columnCount, rowCount}
 use Rattle.spec_spline.specs.Table.{rowCells}
 use Rattle.theorems_beams.specs.Sections.{partAt}
 use Rattle.build_space.specs.Machine.{space}
 use Rattle.curve_ordinates.specs.Ordinates.{Weighs, Coefficients, WeighedRows}
-use Rattle.curve_parts.proofs.Part.{rowsFrom, middle-coefficients, part-after, part-within, beam-rows-few, part-columns-few}
-use Rattle.curve_parts.proofs.Part.{rows-told, weighs-rows, leaves-rows, leaves-refused}
+use Rattle.build.proofs.Beam.{Lies, part-lies}
+use Rattle.curve_parts.proofs.Part.{rowsFrom, middle-coefficients, beam-rows-few, part-columns-few, rows-told, weighs-rows, leaves-rows, leaves-refused}
 use Rattle.curve_parts.proofs.build_part.Statement.{statement}
 use Rattle.curve_parts.proofs.build_part.Tie as tie
 
--- where the part lies in the lists
-record Lies (breaks degrees orders a b : ℕ) : Type 0 where
-  some : a < b
-  within : b ≤ degrees
-  break-count : breaks ≡ degrees + 1
-  order-count : orders + 1 ≡ degrees
-  few : degrees ≤ 48
+abbrev lists : tie.Start → Space
+lists c = space (c .args .breaks .now) (c .args .degrees .now) (c .args .orders .now)
 
-module _ (c : tie.Start) where
-  abbrev lists : Space
-  lists = space (c .args .breaks .now) (c .args .degrees .now) (c .args .orders .now)
-
-  lies : Lies (length (c .args .breaks .now)) (length (c .args .degrees .now)) (length (c .args .orders .now)) (c .args .a) (c .args .b)
-  lies = let l = c .pre .part .legal in record {
-    some = part-after lists _ _ (c .pre .part);
-    within = part-within lists _ _ (c .pre .part);
-    break-count = l .break-count;
-    order-count = l .order-count;
-    few = l .few;
-  }
-
-sub-build-2 : tie.Need-sub-build-2
-sub-build-2 c = let l = lies (c .before) in omega (arith, l .some, l .within, l .break-count, l .order-count, l .few)
-
-part-build-start-2 : tie.Need-part-build-start-2
-part-build-start-2 c = let l = lies (c .before) in omega (arith, l .some, l .within, l .break-count, l .order-count, l .few)
-
-part-build-end-2 : tie.Need-part-build-end-2
-part-build-end-2 c = let l = lies (c .before) in omega (arith, l .some, l .within, l .break-count, l .order-count, l .few)
-
-sub-build-3 : tie.Need-sub-build-3
-sub-build-3 c = let l = lies (c .before .before) in omega (arith, l .some, l .within, l .break-count, l .order-count, l .few)
-
-sub-build-4 : tie.Need-sub-build-4
-sub-build-4 c = let l = lies (c .before .before) in omega (arith, l .some, l .within, l .break-count, l .order-count, l .few)
-
-part-build-start-3 : tie.Need-part-build-start-3
-part-build-start-3 c = let l = lies (c .before .before) in omega (arith, l .some, l .within, l .break-count, l .order-count, l .few)
-
-part-build-end-3 : tie.Need-part-build-end-3
-part-build-end-3 c = let l = lies (c .before .before) in omega (arith, l .some, l .within, l .break-count, l .order-count, l .few)
+lies : (c : tie.Start) → Lies (length (c .args .breaks .now)) (length (c .args .degrees .now)) (length (c .args .orders .now)) (c .args .a) (c .args .b)
+lies c = let p = c .pre .part in part-lies _ _ _ (p .legal) (p .starts) (p .ends)
 
 -- the part is built
 module _ (c : tie.After-build) where
@@ -124,11 +88,12 @@ returns-2 c =
 
 pub build-part-spec : {M : Type 1} → statement M
 build-part-spec =
-    tie.close (tie.spec (λ c. let l = lies c in omega (arith, l .some, l .within, l .break-count, l .order-count, l .few))
-    (λ c. search needs) (λ c. let l = lies c in omega (arith, l .some, l .within, l .break-count, l .order-count, l .few))
-    (λ c. let l = lies c in omega (arith, l .some, l .within, l .break-count, l .order-count, l .few))
-    (λ c. let l = lies c in omega (arith, l .some, l .within, l .break-count, l .order-count, l .few)) (λ c. search needs) sub-build-2
-    part-build-start-2 part-build-end-2 sub-build-3 (λ c. search needs) sub-build-4 part-build-start-3 part-build-end-3
+    tie.close (tie.spec (λ c. let l = lies c in omega arith) (λ c. search needs) (λ c. let l = lies c in omega arith)
+    (λ c. let l = lies c in omega arith) (λ c. let l = lies c in omega arith) (λ c. search needs)
+    (λ c. let l = lies (c .before) in omega arith) (λ c. let l = lies (c .before) in omega arith)
+    (λ c. let l = lies (c .before) in omega arith) (λ c. let l = lies (c .before .before) in omega arith) (λ c. search needs)
+    (λ c. let l = lies (c .before .before) in omega arith) (λ c. let l = lies (c .before .before) in omega arith)
+    (λ c. let l = lies (c .before .before) in omega arith)
     (λ c κs. search needs) (λ c. search needs) (λ c. search needs) (λ c. search needs)
     (λ c. let k = c .before in omega (arith, rows-within k, rows-few k, entry k .pre .coefficients .count))
     (λ c. let k = c .before in omega (arith, rows-within k, rows-few k, entry k .pre .coefficients .count)) (λ c. search needs)

@@ -8,8 +8,7 @@ use lib.IntN.{ℤ, pos, _*ℤ_}
 use lib.ListN.{getD}
 use mir.Syntax.{w64}
 use mir.Val.{SFits, ofZ, toZ}
-use mir.ValLaws.{toZ-ofZ}
-use Rattle.base_exact.proofs.Word.{sfits-abs}
+use Rattle.base_exact.proofs.Word.{toZ-ofZ, sfits-abs}
 use Rattle.spec_spline.specs.Space.{width}
 use Rattle.build_space.specs.Machine.{space}
 use Rattle.build_space.proofs.Bounds.{breaks-apart}

@@ -7,10 +7,9 @@ use lib.IntN.{ℤ, pos}
 use lib.ListN.{getD, set, drop, replicate}
 use mir.Syntax.{w32, w64}
 use mir.Val.{SFits, ofZ, toZ}
-use mir.ValLaws.{toZ-ofZ}
 use Rattle.base_exact.specs.Tabulate.{tab}
 use Rattle.base_exact.proofs.Tabulate.{tab-none, tab-more}
-use Rattle.base_exact.proofs.Word.{sfits-widen}
+use Rattle.base_exact.proofs.Word.{toZ-ofZ, sfits-widen}
 use Rattle.curve_places.proofs.Local.{local-filled}
 use Rattle.curve_places.proofs.local_ordinates.Statement.{statement}
 use Rattle.curve_places.proofs.local_ordinates.Tie as tie

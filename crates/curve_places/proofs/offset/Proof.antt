@@ -6,9 +6,8 @@ use lib.IntN.{ℤ, pos, natAbs, _-ℤ_, _*ℤ_}
 use lib.ListN.{getD}
 use mir.Syntax.{w32, w64}
 use mir.Val.{SFits, ofZ, toZ}
-use mir.ValLaws.{toZ-ofZ}
 use Prim.Native.Nat.{_≤_}
-use Rattle.base_exact.proofs.Word.{sfits-abs, abs-sfits, sfits-widen, abs-sub, abs-mul-le}
+use Rattle.base_exact.proofs.Word.{toZ-ofZ, sfits-abs, abs-sfits, sfits-widen, abs-sub, abs-mul-le}
 use Rattle.curve_places.proofs.offset.Statement.{statement}
 use Rattle.curve_places.proofs.offset.Tie as tie
 
@@ -35,25 +34,14 @@ module _ (s : tie.Start) where
   offset-fits = sfits-abs (omega (arith, start-small, abs-sfits (s .fits .x), abs-sub (s .args .x) (pos 256 *ℤ break)))
 
 sub-result : tie.Need-sub-result
-sub-result c =
-    let s = c .before in
-    let e = s .fits .x in
-    let f = break-fits-32 s in
-    let g = break-fits s in
-    let h = x-fits s in
-    let k = start-fits s in
-    simp toZ-ofZ (offset-fits s)
+sub-result c = let s = c .before in simp (toZ-ofZ, s .fits .x, break-fits-32 s, break-fits s, x-fits s, start-fits s) (offset-fits s)
 
 returns : tie.Need-returns
 returns c =
     let s = c .before in
-    let e = s .fits .x in
-    let f = break-fits-32 s in
-    let g = break-fits s in
-    let h = x-fits s in
-    let k = start-fits s in
     let z : toZ w64 (ofZ w64 (toZ w32 (ofZ w32 (s .args .x)))) -ℤ toZ w64
-    (ofZ w64 (pos 256 *ℤ toZ w64 (ofZ w64 (toZ w32 (ofZ w32 (break s)))))) ≡ s .args .x -ℤ pos 256 *ℤ break s = simp toZ-ofZ in
+    (ofZ w64 (pos 256 *ℤ toZ w64 (ofZ w64 (toZ w32 (ofZ w32 (break s)))))) ≡ s .args .x -ℤ pos 256 *ℤ break s =
+    simp (toZ-ofZ, s .fits .x, break-fits-32 s, break-fits s, x-fits s, start-fits s) in
     ap (λ (z : ℤ). toZ w64 (ofZ w64 z)) z ∙ toZ-ofZ w64 _ (offset-fits s)
 
 pub offset-spec : {M : Type 1} → statement M

@@ -43,10 +43,8 @@ module _ (c : tie.After-struct-told2) where
 
 rate-of-requires : tie.Need-rate-of-requires
 rate-of-requires c κs =
-    let f = offset-fits c in
-    let g = whole-fits c in
-    let h = tail-fits c in
-    simp toZ-ofZ (record { width = _; inside = begin c .pre .sound .inside; inverted = inverted c })
+    simp (toZ-ofZ, offset-fits c, whole-fits c, tail-fits c)
+    (record { width = _; inside = begin c .pre .sound .inside; inverted = inverted c })
 
 module _ (c : tie.After-struct-told4) where
   abbrev start : tie.Start

@@ -7,8 +7,7 @@ use lib.IntN.{ℤ, pos, natAbs}
 use lib.ListN.{getD}
 use mir.Syntax.{w32, w64}
 use mir.Val.{SFits, ofZ, toZ}
-use mir.ValLaws.{toZ-ofZ}
-use Rattle.base_exact.proofs.Word.{sfits-abs}
+use Rattle.base_exact.proofs.Word.{toZ-ofZ, sfits-abs}
 use Rattle.spec_spline.specs.Reading.{triangle}
 use Rattle.curve_places.specs.Location.{ValueIs}
 use Rattle.curve_places.proofs.Local.{local-bounded}
@@ -19,10 +18,9 @@ use Rattle.curve_places.proofs.value_of.Tie as tie
 triangle-requires : tie.Need-triangle-requires
 triangle-requires c κs =
     let s = c .before in
-    let f = s .fits .high in
-    let g = s .fits .low in
     let bounded = local-bounded (s .args .ordinates .now) (s .args .c) (s .args .p) (s .pre .ordinates .bounded) in
-    simp toZ-ofZ (record { few = s .pre .degree-low; bounded = rw (c .local-ordinates .ensures) bounded; rate = s .pre .rate })
+    simp (toZ-ofZ, s .fits .high, s .fits .low)
+    (record { few = s .pre .degree-low; bounded = rw (c .local-ordinates .ensures) bounded; rate = s .pre .rate })
 
 module _ (c : tie.After-triangle) where
   abbrev start : tie.Start
@@ -32,9 +30,7 @@ module _ (c : tie.After-triangle) where
       (c .triangle .result)
   value-is u d rated =
       let s = start in
-      let f = s .fits .high in
-      let g = s .fits .low in
-      (simp toZ-ofZ at (c .triangle .ensures .is)) u d rated
+      (simp (toZ-ofZ, s .fits .high, s .fits .low) at (c .triangle .ensures .is)) u d rated
       ∙ ap (λ (l : List ℤ). triangle (natAbs d) u (λ k. getD l k (pos 0)) (s .args .p) 0) (c .before .local-ordinates .ensures)
       ∙ value-local (s .args .ordinates .now) (s .args .c) (s .args .p) u (natAbs d) (omega (arith, s .pre .degree-low))
 

@@ -5,11 +5,10 @@ use mathlib.Core.Path.{refl}
 use lib.IntN.{_*ℤ_}
 use mir.Syntax.{w64}
 use mir.Val.{SFits}
-use mir.ValLaws.{toZ-ofZ}
 use Rattle.base_exact.specs.Floor.{floorDiv}
 use Rattle.base_exact.proofs.Integer.{abs-mul-le}
 use Rattle.base_exact.proofs.Floor.{floorDiv-shrZ}
-use Rattle.base_exact.proofs.Word.{sfits-abs, floor-fits}
+use Rattle.base_exact.proofs.Word.{toZ-ofZ, sfits-abs, floor-fits}
 use Rattle.curve_rate.proofs.carried.Statement.{statement}
 use Rattle.curve_rate.proofs.carried.Tie as tie
 

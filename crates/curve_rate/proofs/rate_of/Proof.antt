@@ -7,10 +7,9 @@ use lib.IntN.{ℤ, pos, _+ℤ_, _-ℤ_, _*ℤ_}
 use lib.Signed.{shrZ}
 use mir.Syntax.{w64}
 use mir.Val.{SFits}
-use mir.ValLaws.{toZ-ofZ}
 use Rattle.base_exact.specs.Floor.{floorDiv}
 use Rattle.base_exact.proofs.Floor.{floorDiv-shrZ}
-use Rattle.base_exact.proofs.Word.{sfits-abs, abs-mul-le}
+use Rattle.base_exact.proofs.Word.{toZ-ofZ, sfits-abs, abs-mul-le}
 use Rattle.curve_rate.specs.Rate.{Rated, RateIs}
 use Rattle.curve_rate.proofs.Sizes.{more, high, low, RateSizes, rate-sizes, total-abs, high-abs, low-abs, rate-is}
 use Rattle.curve_rate.proofs.rate_of.Statement.{statement}
@@ -21,10 +20,8 @@ sizes c = rate-sizes (c .args .u) (c .args .whole) (c .args .tail) (c .pre)
 
 carried-requires : tie.Need-carried-requires
 carried-requires c κs =
-    let f = c .fits .u in
-    let g = c .fits .tail in
     let s = sizes c in
-    simp toZ-ofZ (record { rise-small = omega (arith, s .offset-small); low-small = s .tail-small })
+    simp (toZ-ofZ, c .fits .u, c .fits .tail) (record { rise-small = omega (arith, s .offset-small); low-small = s .tail-small })
 
 module _ (c : tie.After-carried) where
   abbrev start : tie.Start
@@ -43,7 +40,7 @@ module _ (c : tie.After-carried) where
   sum = u *ℤ whole +ℤ c .carried .result
 
   more-is : c .carried .result ≡ more u tail
-  more-is = let f = start .fits .u in let g = start .fits .tail in simp toZ-ofZ at (c .carried .ensures)
+  more-is = simp (toZ-ofZ, start .fits .u, start .fits .tail) at (c .carried .ensures)
 
   more-fits : SFits w64 (c .carried .result)
   more-fits = record { sfits = c .carried .ok }
@@ -84,44 +81,20 @@ module _ (c : tie.After-carried) where
       (rate-is u whole tail (sizes start) d o inverted))
 
 add-total : tie.Need-add-total
-add-total c =
-    let f = c .before .fits .u in
-    let g = c .before .fits .whole in
-    let h = product-fits c in
-    let k = more-fits c in
-    simp toZ-ofZ (sum-fits c)
+add-total c = simp (toZ-ofZ, c .before .fits .u, c .before .fits .whole, product-fits c, more-fits c) (sum-fits c)
 
 mul-low : tie.Need-mul-low
-mul-low c =
-    let f = c .before .fits .u in
-    let g = c .before .fits .whole in
-    let h = product-fits c in
-    let k = more-fits c in
-    let l = sum-fits c in
-    let m = high-fits c in
-    simp toZ-ofZ (back-fits c)
+mul-low c = simp (toZ-ofZ, c .before .fits .u, c .before .fits .whole, product-fits c, more-fits c, sum-fits c, high-fits c) (back-fits c)
 
 sub-low : tie.Need-sub-low
 sub-low c =
-    let f = c .before .fits .u in
-    let g = c .before .fits .whole in
-    let h = product-fits c in
-    let k = more-fits c in
-    let l = sum-fits c in
-    let m = high-fits c in
-    let n = back-fits c in
-    simp toZ-ofZ (low-fits c)
+    simp (toZ-ofZ, c .before .fits .u, c .before .fits .whole, product-fits c, more-fits c, sum-fits c, high-fits c, back-fits c)
+    (low-fits c)
 
 returns : tie.Need-returns
 returns c d o inverted =
-    let f = c .before .fits .u in
-    let g = c .before .fits .whole in
-    let h = product-fits c in
-    let k = more-fits c in
-    let l = sum-fits c in
-    let m = high-fits c in
-    let n = back-fits c in
-    simp toZ-ofZ (rw (toZ-ofZ w64 _ (low-fits c)) (rated c d o inverted))
+    simp (toZ-ofZ, c .before .fits .u, c .before .fits .whole, product-fits c, more-fits c, sum-fits c, high-fits c, back-fits c)
+    (rw (toZ-ofZ w64 _ (low-fits c)) (rated c d o inverted))
 
 pub rate-of-spec : {M : Type 1} → statement M
 rate-of-spec =

@@ -8,19 +8,16 @@ use lib.IntN.{ℤ, pos, natAbs, _+ℤ_, _*ℤ_}
 use lib.Signed.{shrZ}
 use mir.Syntax.{w64}
 use mir.Val.{SFits}
-use mir.ValLaws.{toZ-ofZ}
 use Rattle.base_exact.specs.Floor.{floorDiv}
 use Rattle.base_exact.proofs.Floor.{floorDiv-shrZ}
-use Rattle.base_exact.proofs.Word.{sfits-abs, abs-add, floor-fits}
+use Rattle.base_exact.proofs.Word.{toZ-ofZ, sfits-abs, abs-add, floor-fits}
 use Rattle.curve_rate.proofs.Sizes.{whole-abs, tail-abs, share-is}
 use Rattle.curve_rate.proofs.share_of.Statement.{statement}
 use Rattle.curve_rate.proofs.share_of.Tie as tie
 
 carried-requires : tie.Need-carried-requires
 carried-requires c κs =
-    let f = c .fits .rise in
-    let g = c .fits .low in
-    simp toZ-ofZ (record { rise-small = c .pre .rise-small; low-small = c .pre .rate .rated .low-small })
+    simp (toZ-ofZ, c .fits .rise, c .fits .low) (record { rise-small = c .pre .rise-small; low-small = c .pre .rate .rated .low-small })
 
 module _ (c : tie.After-carried) where
   abbrev start : tie.Start
@@ -36,7 +33,7 @@ module _ (c : tie.After-carried) where
   carried = record { sfits = c .carried .ok }
 
   tail-is : c .carried .result ≡ floorDiv (x *ℤ start .args .low) 536870912
-  tail-is = let f = start .fits .rise in let g = start .fits .low in simp toZ-ofZ at (c .carried .ensures)
+  tail-is = simp (toZ-ofZ, start .fits .rise, start .fits .low) at (c .carried .ensures)
 
   whole-size : natAbs whole ≤ 536870912 * (8589934592 + 524288)
   whole-size = whole-abs (start .args .high) (start .args .low) _ _ x (start .pre .rate .rated) (start .pre .rise-small)
@@ -60,32 +57,17 @@ module _ (c : tie.After-carried) where
       rw (floorDiv-shrZ (whole +ℤ c .carried .result +ℤ pos half) 8589934592) at (floor-fits 8589934592 (half-fits half h))
 
 add-result : tie.Need-add-result
-add-result c =
-    let f = c .before .fits .rise in
-    let g = c .before .fits .high in
-    let h = whole-fits c in
-    let k = carried c in
-    simp toZ-ofZ (sum-fits c)
+add-result c = simp (toZ-ofZ, c .before .fits .rise, c .before .fits .high, whole-fits c, carried c) (sum-fits c)
 
 add-result-2 : tie.Need-add-result-2
 add-result-2 c =
-    let f = c .before .fits .rise in
-    let g = c .before .fits .high in
-    let h = whole-fits c in
-    let k = carried c in
-    let l = sum-fits c in
-    simp toZ-ofZ (half-fits c _ (omega arith))
+    simp (toZ-ofZ, c .before .fits .rise, c .before .fits .high, whole-fits c, carried c, sum-fits c) (half-fits c _ (omega arith))
 
 returns : tie.Need-returns
 returns c u d rated =
-    let f = c .before .fits .rise in
-    let g = c .before .fits .high in
-    let h = whole-fits c in
-    let k = carried c in
-    let l = sum-fits c in
     let m = half-fits c 4294971392 (omega arith) in
     let n = shifted-fits c 4294971392 (omega arith) in
-    simp toZ-ofZ
+    simp (toZ-ofZ, c .before .fits .rise, c .before .fits .high, whole-fits c, carried c, sum-fits c, m, n)
     (sym (floorDiv-shrZ (whole c +ℤ c .carried .result +ℤ pos 4294971392) 8589934592)
     ∙ ap (λ (p : ℤ). floorDiv (whole c +ℤ p +ℤ pos 4294971392) 8589934592) (tail-is c)
     ∙ share-is (c .before .args .high) (c .before .args .low) u d (x c) rated (c .before .pre .rise-small) 4294971392 (omega arith)

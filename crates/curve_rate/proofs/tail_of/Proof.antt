@@ -28,7 +28,7 @@ module _ (c : tie.After-whole-of) where
   whole = record { sfits = c .whole-of .ok }
 
   whole-is : c .whole-of .result ≡ wholeOf d
-  whole-is = let g = c .before .fits .d in simp toZ-ofZ at (c .whole-of .ensures)
+  whole-is = simp (toZ-ofZ, c .before .fits .d) at (c .whole-of .ensures)
 
   back-fits : SFits w64 (c .whole-of .result *ℤ d)
   back-fits = subst (λ (x : ℤ). SFits w64 (x *ℤ c .before .args .d)) (sym whole-is) (sfits-abs (omega (arith, bounds .back-abs)))
@@ -56,27 +56,17 @@ module _ (c : tie.After-whole-of) where
   quotient-fits = sfits-le (quot-mag product d above (c .before .pre .long)) product-fits
 
 mul-result : tie.Need-mul-result
-mul-result c = let f = c .before .fits .d in let g = whole c in let k = back-fits c in let l = left-fits c in simp toZ-ofZ (product-fits c)
+mul-result c = simp (toZ-ofZ, c .before .fits .d, whole c, back-fits c, left-fits c) (product-fits c)
 
 div-result : tie.Need-div-result
 div-result c =
-    let f = c .before .fits .d in
-    let g = whole c in
-    let k = back-fits c in
-    let l = left-fits c in
-    let m = product-fits c in
-    (ofZ-pos w64 _ (c .before .pre .long), simp toZ-ofZ (quotient-fits c))
+    (ofZ-pos w64 _ (c .before .pre .long), simp (toZ-ofZ, c .before .fits .d, whole c, back-fits c, left-fits c, product-fits c) (quotient-fits c))
 
 returns : tie.Need-returns
 unfolding tailOf
 returns c =
-    let f = c .before .fits .d in
-    let g = whole c in
-    let k = back-fits c in
-    let l = left-fits c in
-    let m = product-fits c in
-    let n = quotient-fits c in
-    simp toZ-ofZ (quot-floor (product c) (d c) (above c) (c .before .pre .long)
+    simp (toZ-ofZ, c .before .fits .d, whole c, back-fits c, left-fits c, product-fits c, quotient-fits c)
+    (quot-floor (product c) (d c) (above c) (c .before .pre .long)
     ∙ ap (λ (x : ℤ). floorDiv ((pos 4611686018427387904 -ℤ x *ℤ c .before .args .d) *ℤ pos 536870912) (natAbs (c .before .args .d)))
     (whole-is c))
 

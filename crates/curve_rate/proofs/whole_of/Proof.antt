@@ -22,10 +22,7 @@ quotient-fits c = sfits-le (quot-mag (pos 4611686018427387904) (c .args .d) unit
 
 returns : tie.Need-returns
 unfolding wholeOf
-returns c =
-    let h = c .fits .d in
-    let m = quotient-fits c in
-    simp toZ-ofZ (quot-floor (pos 4611686018427387904) (c .args .d) unit-above (c .pre .long))
+returns c = simp (toZ-ofZ, c .fits .d, quotient-fits c) (quot-floor (pos 4611686018427387904) (c .args .d) unit-above (c .pre .long))
 
 pub whole-of-spec : {M : Type 1} → statement M
 whole-of-spec = tie.close (tie.spec (λ c. let h = c .fits .d in (ofZ-pos w64 _ (c .pre .long), simp toZ-ofZ (quotient-fits c))) returns)

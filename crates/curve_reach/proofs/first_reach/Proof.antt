@@ -7,8 +7,7 @@ use Prim.Native.Nat.{ℕ}
 use lib.IntN.{pos, _*ℤ_}
 use mir.Syntax.{w32, w64}
 use mir.Val.{SFits}
-use mir.ValLaws.{toZ-ofZ}
-use Rattle.base_exact.proofs.Word.{sfits-abs, sfits-widen, abs-sfits, abs-mul-le}
+use Rattle.base_exact.proofs.Word.{toZ-ofZ, sfits-abs, sfits-widen, abs-sfits, abs-mul-le}
 use Rattle.base_outcome.specs.Outcome.{answer}
 use Rattle.base_outcome.specs.Search.{first}
 use Rattle.spec_spline.specs.Space.{Space}

@@ -7,8 +7,7 @@ use lib.IntN.{ℤ, pos, natAbs, _+ℤ_, _*ℤ_}
 use lib.ListN.{getD}
 use mir.Syntax.{w32}
 use mir.Val.{SFits, ofZ, toZ}
-use mir.ValLaws.{toZ-ofZ, toZ-pos}
-use Rattle.base_exact.proofs.Word.{sfits-abs, abs-add, abs-mul-le}
+use Rattle.base_exact.proofs.Word.{toZ-ofZ, toZ-pos, sfits-abs, abs-add, abs-mul-le}
 use Rattle.curve_reach_search.proofs.position_at.Statement.{statement}
 use Rattle.curve_reach_search.proofs.position_at.Tie as tie
 
@@ -32,17 +31,13 @@ module _ (s : tie.Start) where
   offset-small = omega (arith, s .pre .short)
 
 add-result : tie.Need-add-result
-add-result c =
-    let s = c .before in
-    let f = break-fits s in let g = start-fits s in simp (toZ-ofZ, toZ-pos w32 (s .args .u) (offset-small s)) (sum-fits s)
+add-result c = let s = c .before in simp (toZ-ofZ, toZ-pos w32 (s .args .u) (offset-small s), break-fits s, start-fits s) (sum-fits s)
 
 returns : tie.Need-returns
 returns c =
     let s = c .before in
-    let f = break-fits s in
-    let g = start-fits s in
     let z : toZ w32 (ofZ w32 (pos 256 *ℤ toZ w32 (ofZ w32 (break s)))) +ℤ toZ w32 (s .args .u) ≡ pos 256 *ℤ break s +ℤ pos (s .args .u) =
-    simp (toZ-ofZ, toZ-pos w32 (s .args .u) (offset-small s)) in
+    simp (toZ-ofZ, toZ-pos w32 (s .args .u) (offset-small s), break-fits s, start-fits s) in
     ap (λ (z : ℤ). toZ w32 (ofZ w32 z)) z ∙ toZ-ofZ w32 _ (sum-fits s)
 
 pub position-at-spec : {M : Type 1} → statement M

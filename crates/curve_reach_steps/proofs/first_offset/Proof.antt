@@ -30,9 +30,6 @@ step-through-requires c κs =
     let small = one-bounds (a .ordinates .now) (a .c) (a .p) (a .target) bounded (told (c .before) (c .if1 .taken)) in
     record { segment = s .pre .segment; end-within = s .pre .end-within; target-small = simp toZ-ofZ small }
 
-returns : tie.Need-returns
-returns c = let f = start (c .before .before) .fits .target in simp toZ-ofZ at (c .step-through .ensures)
-
 returns-2 : tie.Need-returns-2
 returns-2 c =
     let s = start (c .before) in
@@ -47,4 +44,6 @@ returns-2 c =
     }
 
 pub first-offset-spec : {M : Type 1} → statement M
-first-offset-spec = tie.close (tie.spec (λ c κs. search needs) step-through-requires returns returns-2)
+first-offset-spec =
+    tie.close (tie.spec (λ c κs. search needs) step-through-requires
+    (λ c. let f = start (c .before .before) .fits .target in simp toZ-ofZ at (c .step-through .ensures)) returns-2)

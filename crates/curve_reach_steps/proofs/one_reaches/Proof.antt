@@ -9,8 +9,7 @@ use lib.ListN.{getD}
 use lib.Signed.{leZ}
 use mir.Syntax.{w32, w64}
 use mir.Val.{SFits, ofZ, toZ}
-use mir.ValLaws.{toZ-ofZ}
-use Rattle.base_exact.proofs.Word.{sfits-widen}
+use Rattle.base_exact.proofs.Word.{toZ-ofZ, sfits-widen}
 use Rattle.base_outcome.specs.Search as searches
 use Rattle.base_outcome.proofs.Search.{first-at, first-none}
 use Rattle.curve_reach_steps.proofs.one_reaches.Statement.{statement}

@@ -6,8 +6,7 @@ use lib.IntN.{ℤ, pos}
 use lib.ListN.{getD}
 use mir.Syntax.{w32}
 use mir.Val.{SFits}
-use mir.ValLaws.{toZ-ofZ}
-use Rattle.base_exact.proofs.Word.{sfits-widen}
+use Rattle.base_exact.proofs.Word.{toZ-ofZ, sfits-widen}
 use Rattle.curve_reach_steps.specs.Machine.{Steepest}
 use Rattle.curve_reach_steps.proofs.Rises.{steepest-none, steepest-more}
 use Rattle.curve_reach_steps.proofs.steepest.Statement.{statement}

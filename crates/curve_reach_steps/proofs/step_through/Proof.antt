@@ -9,10 +9,9 @@ use lib.IntN.{ℤ, pos, natAbs, _-ℤ_}
 use lib.Signed.{_≤ℤ_, _<ℤ_}
 use mir.Syntax.{w64}
 use mir.Val.{SFits, toZ}
-use mir.ValLaws.{toZ-ofZ}
 use Rattle.base_exact.proofs.Decide.{le-or-lt}
 use Rattle.base_exact.proofs.Integer as Z
-use Rattle.base_exact.proofs.Word.{sfits-abs, fits-unsigned, leZ-true, leZ-false}
+use Rattle.base_exact.proofs.Word.{toZ-ofZ, sfits-abs, fits-unsigned, leZ-true, leZ-false}
 use Rattle.curve_ordinates.specs.Ordinates.{ordinateLimit}
 use Rattle.curve_reach_steps.specs.Machine.{valueOn}
 use Rattle.curve_reach_steps.proofs.Rises.{gap-small, room-small, at-least-once}
@@ -53,7 +52,7 @@ module _ (c : tie.After-value-on Inv-loop μ-loop) where
 -- no value before u, with the target read back from its word
 before-is : (c : tie.At-loop Inv-loop μ-loop) (w : ℕ) → let a = c .before .before .args in a .start ≤ w → w < c .loop .u → w < a .end
     → valueOn (a .ordinates .now) (a .c) (a .p) (a .d) w <ℤ a .target
-before-is c w h k l = let f = c .before .before .fits .target in simp toZ-ofZ at (c .loop .inv .1 w h k l)
+before-is c w h k l = simp (toZ-ofZ, c .before .before .fits .target) at (c .loop .inv .1 w h k l)
 
 -- the value lies below the target
 module _ (c : tie.Else2 Inv-loop μ-loop) where
@@ -61,7 +60,7 @@ module _ (c : tie.Else2 Inv-loop μ-loop) where
   read = c .before
 
   below-result : c .before .value-on .result <ℤ target read
-  below-result = let f = start read .fits .target in let g = result-fits read in leZ-false _ _ (simp toZ-ofZ at (c .if2 .left))
+  below-result = leZ-false _ _ (simp (toZ-ofZ, start read .fits .target, result-fits read) at (c .if2 .left))
 
   abbrev gap : ℤ
   gap = target read -ℤ c .before .value-on .result
@@ -78,17 +77,12 @@ module _ (c : tie.Else2 Inv-loop μ-loop) where
   gap-positive = Z.nonNeg-le _ (Z.le-sub _ _ (Z.<-≤ _ _ below-result))
 
 cast-ahead : tie.Need-cast-ahead Inv-loop μ-loop
-cast-ahead c =
-    let f = start (read c) .fits .target in
-    let g = result-fits (read c) in let h = gap-fits c in simp toZ-ofZ (fits-unsigned (gap-positive c) h)
+cast-ahead c = let h = gap-fits c in simp (toZ-ofZ, start (read c) .fits .target, result-fits (read c), h) (fits-unsigned (gap-positive c) h)
 
 ahead-requires : tie.Need-ahead-requires Inv-loop μ-loop
 ahead-requires c κs =
     let s = start (read c) in
-    let f = s .fits .target in
-    let g = result-fits (read c) in
-    let h = gap-fits c in
-    simp toZ-ofZ (record {
+    simp (toZ-ofZ, s .fits .target, result-fits (read c), gap-fits c) (record {
       gap-small = gap-size c;
       short = s .pre .segment .short;
       cost-some = mul-pos (s .pre .segment .degree-some) (read c .before .before .before .steepest .ensures .positive);
@@ -103,7 +97,7 @@ module _ (c : tie.After-ahead Inv-loop μ-loop) where
   rise = at .before .before .before .steepest .result
 
   cost-is : c .ahead .result * (start at .args .p * rise) ≤ (natAbs (gap (c .before)) - start at .args .p) * start at .args .d
-  cost-is = let f = start at .fits .target in let g = result-fits at in let h = gap-fits (c .before) in simp toZ-ofZ at (c .ahead .ensures)
+  cost-is = simp (toZ-ofZ, start at .fits .target, result-fits at, gap-fits (c .before)) at (c .ahead .ensures)
 
   few : c .ahead .result ≤ 512000000 * 512000
   few =
@@ -129,7 +123,7 @@ module _ (c : tie.After-ahead Inv-loop μ-loop) where
       go (inr m) = before-is (at .before .before) w h m l
 
 loop-again : tie.Need-loop-again Inv-loop μ-loop
-loop-again c = let f = start (at c) .fits .target in (omega (arith, at c .before .before .loop .inv .0), simp toZ-ofZ (none-before c))
+loop-again c = (omega (arith, at c .before .before .loop .inv .0), simp (toZ-ofZ, start (at c) .fits .target) (none-before c))
 
 returns : tie.Need-returns Inv-loop μ-loop
 returns c = record { after = c .before .loop .inv .0; none-before = before-is (c .before); there = λ h. absurd (omega arith) }
@@ -137,12 +131,11 @@ returns c = record { after = c .before .loop .inv .0; none-before = before-is (c
 returns-2 : tie.Need-returns-2 Inv-loop μ-loop
 returns-2 c =
     let r = c .before in
-    let f = start r .fits .target in
-    let g = result-fits r in
     record {
       after = r .before .before .loop .inv .0;
       none-before = before-is (r .before .before);
-      there = λ h. subst (λ z. target r ≤ℤ z) (result-is r) (leZ-true _ _ (simp toZ-ofZ at (c .if2 .taken)));
+      there = λ h. subst (λ z. target r ≤ℤ z) (result-is r)
+          (leZ-true _ _ (simp (toZ-ofZ, start r .fits .target, result-fits r) at (c .if2 .taken)));
     }
 
 pub step-through-spec : {M : Type 1} → statement M

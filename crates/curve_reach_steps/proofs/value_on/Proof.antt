@@ -6,9 +6,8 @@ use Prim.Native.Nat.{_≤_}
 use lib.IntN.{ℤ, pos, natAbs}
 use mir.Syntax.{w32, w64}
 use mir.Val.{SFits, toZ}
-use mir.ValLaws.{toZ-ofZ, toZ-pos}
 use Rattle.base_exact.proofs.Integer as Z
-use Rattle.base_exact.proofs.Word.{sfits-widen}
+use Rattle.base_exact.proofs.Word.{toZ-ofZ, toZ-pos, sfits-widen}
 use Rattle.curve_ordinates.specs.Ordinates.{ordinateLimit}
 use Rattle.curve_places.specs.Location.{Sound, valueOf}
 use Rattle.curve_reach_steps.specs.Machine.{valueOn}

@@ -8,9 +8,8 @@ use lib.IntN.{ℤ, pos, _+ℤ_, _*ℤ_}
 use lib.ListN.{getD}
 use mir.Syntax.{w32}
 use mir.Val.{SFits, ofZ, toZ}
-use mir.ValLaws.{toZ-ofZ}
 use Rattle.base_exact.proofs.Decide.{cond-true, cond-false}
-use Rattle.base_exact.proofs.Word.{sfits-abs, abs-add, abs-mul-le}
+use Rattle.base_exact.proofs.Word.{toZ-ofZ, sfits-abs, abs-add, abs-mul-le}
 use Rattle.spec_spline.specs.Reading.{fine, startsAtDiscontinuity}
 use Rattle.build_space.specs.Machine.{space}
 use Rattle.build_space.proofs.Partial.{starts-at-discontinuity-partial}
@@ -50,28 +49,21 @@ module _ (c : tie.After-start) where
       sfits-abs (omega (arith, size, abs-add (pos 256 *ℤ break c) (pos 1)))
 
 add-result : tie.Need-add-result
-add-result c =
-    let f = break-fits (at-start (c .before)) in
-    let g = start-fits (at-start (c .before)) in simp toZ-ofZ (more-fits (at-start (c .before)))
+add-result c = simp (toZ-ofZ, break-fits (at-start (c .before)), start-fits (at-start (c .before))) (more-fits (at-start (c .before)))
 
 returns : tie.Need-returns
 unfolding firstPosition
 returns c =
     let a = at-start (c .before) in
-    let f = break-fits a in
-    let g = start-fits a in
-    let h = more-fits a in
     let e : toZ w32 (ofZ w32 (toZ w32 (ofZ w32 (pos 256 *ℤ toZ w32 (ofZ w32 (break a)))) +ℤ pos 1)) ≡ fine (break a) +ℤ pos 1 =
-    simp toZ-ofZ in
+    simp (toZ-ofZ, break-fits a, start-fits a, more-fits a) in
     e ∙ sym (cond-true _ _ (told (c .before) (c .if1 .taken)))
 
 returns-2 : tie.Need-returns-2
 unfolding firstPosition
 returns-2 c =
     let a = at-start (c .before) in
-    let f = break-fits a in
-    let g = start-fits a in
-    let e : toZ w32 (ofZ w32 (pos 256 *ℤ toZ w32 (ofZ w32 (break a)))) ≡ fine (break a) = simp toZ-ofZ in
+    let e : toZ w32 (ofZ w32 (pos 256 *ℤ toZ w32 (ofZ w32 (break a)))) ≡ fine (break a) = simp (toZ-ofZ, break-fits a, start-fits a) in
     e ∙ sym (cond-false _ _ (told (c .before) (c .if1 .left)))
 
 pub first-position-spec : {M : Type 1} → statement M

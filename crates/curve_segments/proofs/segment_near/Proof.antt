@@ -12,8 +12,7 @@ use lib.ListN.{length, getD}
 use lib.Signed.{leZ, ltZ}
 use mir.Syntax.{w32}
 use mir.Val.{ofZ, toZ}
-use mir.ValLaws.{toZ-ofZ}
-use Rattle.base_exact.proofs.Word.{ltZ-true}
+use Rattle.base_exact.proofs.Word.{toZ-ofZ, ltZ-true}
 use Rattle.base_outcome.specs.Search.{last}
 use Rattle.build_space.specs.Machine.{space}
 use Rattle.build_space.specs.Legal.{ListsLegal}

@@ -2,7 +2,6 @@
 use borrow.Author.Needs.{needs}
 use native.Mathlib.Omega.{arith}
 use mathlib.Core.Path.{_≡_, refl, sym, _∙_}
-use Prim.Native.Nat.{_/_, _≤_}
 use Rattle.base_outcome.specs.Machine.{legality}
 use Rattle.base_outcome.specs.declared.Legality.the-variants.{Legal}
 use Rattle.base_outcome.proofs.Machine.{refused-refuses}

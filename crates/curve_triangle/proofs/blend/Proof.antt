@@ -5,8 +5,7 @@ use Prim.Native.Nat.{_≤_}
 use lib.IntN.{ℤ, natAbs, _+ℤ_, _-ℤ_}
 use mir.Syntax.{w64}
 use mir.Val.{SFits}
-use mir.ValLaws.{toZ-ofZ}
-use Rattle.base_exact.proofs.Word.{sfits-abs}
+use Rattle.base_exact.proofs.Word.{toZ-ofZ, sfits-abs}
 use Rattle.spec_spline.specs.Reading.{blend}
 use Rattle.curve_ordinates.specs.Ordinates.{ordinateLimit}
 use Rattle.curve_rate.specs.Rate.{Rated}
@@ -23,12 +22,8 @@ module _ (c : tie.Start) where
 
 share-of-requires : tie.Need-share-of-requires
 share-of-requires c κs =
-    let f = c .fits .h in
-    let g = c .fits .g in
-    let k = c .fits .high in
-    let l = c .fits .low in
-    let m = rise-fits c in
-    simp toZ-ofZ (record { rise-small = omega (arith, rise-size c); rate = c .pre .rate })
+    simp (toZ-ofZ, c .fits .h, c .fits .g, c .fits .high, c .fits .low, rise-fits c)
+    (record { rise-small = omega (arith, rise-size c); rate = c .pre .rate })
 
 module _ (c : tie.After-share-of) where
   abbrev start : tie.Start
@@ -41,12 +36,8 @@ module _ (c : tie.After-share-of) where
   is : (u d : ℤ) → Rated (start .args .high) (start .args .low) u d
       → start .args .g +ℤ c .share-of .result ≡ blend (natAbs d) u (start .args .g) (start .args .h)
   is u d rated =
-      let f = start .fits .h in
-      let g = start .fits .g in
-      let k = start .fits .high in
-      let l = start .fits .low in
-      let m = rise-fits start in
-      ap (λ (z : ℤ). start .args .g +ℤ z) ((simp toZ-ofZ at (c .share-of .ensures)) u d rated)
+      ap (λ (z : ℤ). start .args .g +ℤ z)
+      ((simp (toZ-ofZ, start .fits .g, start .fits .h, start .fits .high, start .fits .low, rise-fits start) at (c .share-of .ensures)) u d rated)
       ∙ step-is u d (start .args .g) (start .args .h) (rated .inside) (start .pre .first-small) (start .pre .second-small)
 
   abs : natAbs (start .args .g +ℤ c .share-of .result) ≤ ordinateLimit
@@ -59,7 +50,7 @@ module _ (c : tie.After-share-of) where
   sum-fits = sfits-abs (omega (arith, abs))
 
 returns : tie.Need-returns
-returns c = let f = c .before .fits .g in let k = share c in let l = sum-fits c in simp toZ-ofZ (record { is = is c; small = abs c })
+returns c = simp (toZ-ofZ, c .before .fits .g, share c, sum-fits c) (record { is = is c; small = abs c })
 
 pub blend-spec : {M : Type 1} → statement M
 blend-spec =

@@ -7,8 +7,7 @@ use lib.IntN.{ℤ, pos, natAbs}
 use lib.ListN.{length, getD}
 use mir.Syntax.{w64}
 use mir.Val.{SFits, ofZ, toZ}
-use mir.ValLaws.{toZ-ofZ}
-use Rattle.base_exact.proofs.Word.{sfits-abs}
+use Rattle.base_exact.proofs.Word.{toZ-ofZ, sfits-abs}
 use Rattle.spec_spline.specs.Reading.{blend}
 use Rattle.curve_rate.specs.Rate.{Rated}
 use Rattle.curve_triangle.proofs.Stages.{Staged, staged-none, staged-more}
@@ -29,9 +28,7 @@ held : (c : tie.At-loop Inv-loop μ-loop) → let s = c .before in let r = s .pr
     Staged (natAbs (r .width)) (r .offset) (s .args .o) (c .loop .r) (c .loop .k)
 held c =
     let s = c .before in
-    let f = s .fits .high in
-    let g = s .fits .low in
-    c .loop .inv .1 (s .pre .rate .offset) (s .pre .rate .width) (simp toZ-ofZ (s .pre .rate .rated))
+    c .loop .inv .1 (s .pre .rate .offset) (s .pre .rate .width) (simp (toZ-ofZ, s .fits .high, s .fits .low) (s .pre .rate .rated))
 
 module _ (c : tie.After-h Inv-loop μ-loop) where
   first-fits : SFits w64 (getD (c .before .before .before .loop .r) (c .before .before .before .loop .k) (pos 0))
@@ -43,12 +40,9 @@ module _ (c : tie.After-h Inv-loop μ-loop) where
 blend-requires : tie.Need-blend-requires Inv-loop μ-loop
 blend-requires c κs =
     let s = c .before .before .before .before in
-    let f = first-fits c in
-    let g = second-fits c in
-    let h = s .fits .high in
-    let k = s .fits .low in
     let bounded = held (c .before .before .before) .bounded in
-    simp toZ-ofZ (record { first-small = bounded _; second-small = bounded _; rate = s .pre .rate })
+    simp (toZ-ofZ, first-fits c, second-fits c, s .fits .high, s .fits .low)
+    (record { first-small = bounded _; second-small = bounded _; rate = s .pre .rate })
 
 -- the blend as it is stored
 stored : (c : tie.After-blend Inv-loop μ-loop) → toZ w64 (ofZ w64 (c .blend .result)) ≡ c .blend .result
@@ -66,10 +60,8 @@ loop-again c = (
 returns : tie.Need-returns Inv-loop μ-loop
 returns c =
     let s = c .before .before in
-    let f = s .fits .high in
-    let g = s .fits .low in
     record {
-      is = λ u d rated k h. c .before .loop .inv .1 u d (simp toZ-ofZ rated) .before k (omega arith);
+      is = λ u d rated k h. c .before .loop .inv .1 u d (simp (toZ-ofZ, s .fits .high, s .fits .low) rated) .before k (omega arith);
       bounded = held (c .before) .bounded;
     }
 

@@ -7,8 +7,7 @@ use lib.IntN.{ℤ, pos, natAbs}
 use lib.ListN.{getD}
 use mir.Syntax.{w64}
 use mir.Val.{SFits, toZ}
-use mir.ValLaws.{toZ-ofZ}
-use Rattle.base_exact.proofs.Word.{sfits-abs}
+use Rattle.base_exact.proofs.Word.{toZ-ofZ, sfits-abs}
 use Rattle.spec_spline.specs.Reading.{triangle}
 use Rattle.curve_rate.specs.Rate.{Rated}
 use Rattle.curve_triangle.proofs.Stages.{Triangled, triangled-none, triangled-more}
@@ -32,17 +31,13 @@ held : (c : tie.At-loop Inv-loop μ-loop) → let s = c .before in let r = s .pr
     Triangled (natAbs (r .width)) (r .offset) (s .args .o) (c .loop .r) (s .args .p - c .loop .n) (c .loop .n)
 held c =
     let s = c .before in
-    let f = s .fits .high in
-    let g = s .fits .low in
-    c .loop .inv .1 (s .pre .rate .offset) (s .pre .rate .width) (simp toZ-ofZ (s .pre .rate .rated))
+    c .loop .inv .1 (s .pre .rate .offset) (s .pre .rate .width) (simp (toZ-ofZ, s .fits .high, s .fits .low) (s .pre .rate .rated))
 
 stage-requires : tie.Need-stage-requires Inv-loop μ-loop
 stage-requires c κs =
     let s = c .before .before in
-    let f = s .fits .high in
-    let g = s .fits .low in
     let few : c .before .loop .n ≤ 5 = omega (arith, s .pre .few) in
-    simp toZ-ofZ (record { few = few; bounded = held (c .before) .bounded; rate = s .pre .rate })
+    simp (toZ-ofZ, s .fits .high, s .fits .low) (record { few = few; bounded = held (c .before) .bounded; rate = s .pre .rate })
 
 loop-again : tie.Need-loop-again Inv-loop μ-loop
 loop-again c =
@@ -67,10 +62,8 @@ module _ (c : tie.After-result Inv-loop μ-loop) where
       → getD (at-end .loop .r) 0 (pos 0) ≡ triangle (natAbs d) u (λ k. getD (a .o) k (pos 0)) (a .p) 0
   first-is u d rated =
       let s = at-end .before in
-      let f = s .fits .high in
-      let g = s .fits .low in
       let all : s .args .p - at-end .loop .n ≡ s .args .p = omega arith in
-      at-end .loop .inv .1 u d (simp toZ-ofZ rated) .numbers 0 (omega arith)
+      at-end .loop .inv .1 u d (simp (toZ-ofZ, s .fits .high, s .fits .low) rated) .numbers 0 (omega arith)
       ∙ ap (λ (n : ℕ). triangle (natAbs d) u (λ k. getD (s .args .o) k (pos 0)) n 0) all
 
 returns : tie.Need-returns Inv-loop μ-loop

@@ -4,15 +4,14 @@ use native.Mathlib.Omega.{arith}
 use mathlib.Core.List.{List, _++_, append-nil}
 use mathlib.Core.Path.{_≡_, sym, ap, ap₂, _∙_}
 use Prim.Native.Nat.{ℕ, _≤_, _<_, _-_}
-use lib.IntN.{ℤ, pos, natAbs, _+ℤ_, _*ℤ_}
+use lib.IntN.{ℤ, pos, _+ℤ_, _*ℤ_}
 use lib.ListN.{length, set, drop, length-set}
 use lib.Seq.{drop-length}
 use mir.Syntax.{w32, w64}
 use mir.Val.{SFits, ofZ, toZ}
-use mir.ValLaws.{toZ-ofZ, toZ-pos}
 use Rattle.base_exact.specs.Tabulate.{tab}
 use Rattle.base_exact.proofs.Tabulate.{tab-none, tab-more, tab-ext}
-use Rattle.base_exact.proofs.Word.{sfits-widen, sfits-abs, sfits-nat, abs-sfits, abs-add, abs-mul}
+use Rattle.base_exact.proofs.Word.{toZ-ofZ, toZ-pos, sfits-widen, sfits-abs, sfits-nat, abs-sfits, abs-add, abs-mul}
 use Rattle.spec_spline.specs.Reading.{fine}
 use Rattle.indices.specs.Words.{nearestWord, wordPosition}
 use Rattle.indices.proofs.fill_positions.Statement.{statement}

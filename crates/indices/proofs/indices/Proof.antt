@@ -65,9 +65,6 @@ module _ (s : tie.Start) where
       → Ends lists (woodOf (s .args .wood)) widths outcome (Refused 1 place) num den values indices num den values indices
   unchanged = ends-unchanged lists (woodOf (s .args .wood)) widths num den values indices
 
-returns : tie.Need-returns
-returns c = let s = c .before in ended (unchanged s (first-short (given s) (c .if1 .taken)))
-
 returns-2 : tie.Need-returns-2
 returns-2 c = let s = c .before .before in ended (unchanged s (second-short (given s) (c .before .if1 .left) (c .if2 .taken)))
 
@@ -190,8 +187,8 @@ returns-6 c =
 
 pub indices-spec : {M : Type 1} → statement M
 indices-spec =
-    tie.close (tie.spec returns returns-2 returns-3 returns-4 (λ c κs. search needs) (λ c. search needs)
-    (λ c. sym (room _ (c .before .rings-taken .ensures)))
+    tie.close (tie.spec (λ c. let s = c .before in ended (unchanged s (first-short (given s) (c .if1 .taken)))) returns-2 returns-3
+    returns-4 (λ c κs. search needs) (λ c. search needs) (λ c. sym (room _ (c .before .rings-taken .ensures)))
     (λ c κs. omega (arith, room _ (c .before .before .before .before .rings-taken .ensures))) (λ c. search needs) (λ c. search needs)
     index-rings-requires (λ c. search needs) (λ c. search needs) (λ c. search needs) returns-5 (λ c. search needs) (λ c. search needs)
     (λ c. search needs) (λ c. search needs) returns-6)

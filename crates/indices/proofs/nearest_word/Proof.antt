@@ -7,9 +7,6 @@ use Rattle.indices.proofs.Words.{nearest-below, nearest-above, nearest-
 use Rattle.indices.proofs.nearest_word.Statement.{statement}
 use Rattle.indices.proofs.nearest_word.Tie as tie
 
-returns : tie.Need-returns
-returns c = let f = c .before .fits .z in nearest-below _ (simp toZ-ofZ at (c .if1 .taken))
-
 returns-2 : tie.Need-returns-2
 returns-2 c = let f = c .before .before .fits .z in nearest-above _ (simp toZ-ofZ at (c .before .if1 .left)) (simp toZ-ofZ at (c .if2 .taken))
 
@@ -25,5 +22,5 @@ returns-3 c =
 
 pub nearest-word-spec : {M : Type 1} → statement M
 nearest-word-spec =
-    tie.close (tie.spec (λ c. search needs) returns (λ c. search needs) returns-2
-    (λ c. let f = c .before .before .fits .z in simp toZ-ofZ (z-fits c)) returns-3)
+    tie.close (tie.spec (λ c. search needs) (λ c. let f = c .before .fits .z in nearest-below _ (simp toZ-ofZ at (c .if1 .taken)))
+    (λ c. search needs) returns-2 (λ c. let f = c .before .before .fits .z in simp toZ-ofZ (z-fits c)) returns-3)

@@ -27,13 +27,11 @@ loop-again c = record {
   good = below-more _ _ (c .before .before .before .loop .inv .good) (sym (c .before .ring-is-bad .ensures) ∙ c .if2 .left);
 }
 
-returns : tie.Need-returns Inv-loop μ-loop
-returns c = found-none _ _ (λ k l. c .before .loop .inv .good k (omega arith))
-
 returns-2 : tie.Need-returns-2 Inv-loop μ-loop
 returns-2 c = found-at _ _ _ (omega arith) (sym (c .before .ring-is-bad .ensures) ∙ c .if2 .taken) (c .before .before .before .loop .inv .good)
 
 pub first-bad-ring-spec : {M : Type 1} → statement M
 first-bad-ring-spec =
     tie.close (tie.spec Inv-loop μ-loop (λ c. record { within = omega arith; good = below-none _ })
-    (λ c κs. record { within = omega arith; valued = omega arith }) (λ c. omega arith) (λ c. omega arith) loop-again returns returns-2)
+    (λ c κs. record { within = omega arith; valued = omega arith }) (λ c. omega arith) (λ c. omega arith) loop-again
+    (λ c. found-none _ _ (λ k l. c .before .loop .inv .good k (omega arith))) returns-2)

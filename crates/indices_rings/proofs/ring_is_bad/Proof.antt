@@ -5,10 +5,9 @@ use lib.IntN.{pos}
 use lib.ListN.{getD}
 use mir.Syntax.{w32}
 use mir.Val.{SFits, ofZ}
-use mir.ValLaws.{toZ-ofZ}
 use Prim.Native.Nat.{_+_, _*_}
 use native.Mathlib.Omega.{arith}
-use Rattle.base_exact.proofs.Word.{ofZ-inj, sfits-nat}
+use Rattle.base_exact.proofs.Word.{toZ-ofZ, ofZ-inj, sfits-nat}
 use Rattle.indices_rings.specs.Cells.{badCell}
 use Rattle.theorems_indices.proofs.Ring.{refused-below, refused-above, absent-passes, present-by-value}
 use Rattle.indices_rings.proofs.ring_is_bad.Statement.{statement}

@@ -26,9 +26,6 @@ Inv-loop widths values offset indices₀ i₀ indices i = Writing widths values 
 abbrev μ-loop : tie.MeasureT-loop
 μ-loop widths values offset indices₀ i₀ indices i = length widths - i
 
-loop-holds : tie.Need-loop-holds Inv-loop μ-loop
-loop-holds c = record { within = omega arith; kept = omega arith; are = tab-none _ _ }
-
 index-requires : tie.Need-index-requires Inv-loop μ-loop
 index-requires c κs = record {
   ring = record { within = omega arith; valued = omega arith };
@@ -59,5 +56,5 @@ returns c =
 
 pub write-indices-spec : {M : Type 1} → statement M
 write-indices-spec =
-    tie.close (tie.spec Inv-loop μ-loop loop-holds index-requires (λ c. omega arith) (λ c. omega arith) (λ c. omega arith)
-    (λ c. omega arith) loop-again (λ c. c .before .loop .inv .kept) returns)
+    tie.close (tie.spec Inv-loop μ-loop (λ c. record { within = omega arith; kept = omega arith; are = tab-none _ _ }) index-requires
+    (λ c. omega arith) (λ c. omega arith) (λ c. omega arith) (λ c. omega arith) loop-again (λ c. c .before .loop .inv .kept) returns)

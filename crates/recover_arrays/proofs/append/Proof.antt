@@ -9,9 +9,8 @@ use lib.ListN.{length, getD, take, drop, length-append, length-drop}
 use lib.Seq.{getD-drop}
 use mir.Syntax.{w32}
 use mir.Val.{SFits}
-use mir.ValLaws.{toZ-ofZ}
 use Rattle.base_exact.specs.Rational.{ℚ, int}
-use Rattle.base_exact.proofs.Word.{sfits-widen}
+use Rattle.base_exact.proofs.Word.{toZ-ofZ, sfits-widen}
 use Rattle.base_exact.specs.Tabulate.{tab}
 use Rattle.base_exact.proofs.Tabulate.{tab-snoc, tab-length, tab-take, tab-ext, map-tab}
 use Rattle.base_fraction.proofs.Value.{fraction-int}
@@ -38,9 +37,6 @@ abbrev μ-loop : tie.MeasureT-loop
 none : (ps : List ℚ) (f : ℕ → ℚ) → ps ≡ ps ++ tab 0 f
 unfolding tab
 none ps f = sym (append-nil ps)
-
-loop-holds : tie.Need-loop-holds Inv-loop μ-loop
-loop-holds c = record { within = omega arith; is = λ ps e size. e ∙ ap fractions (none ps _) }
 
 ordinate-fits : (c : tie.After-o Inv-loop μ-loop) → SFits w32 (getD (c .before .before .before .args .ordinates .now) (c .before .before .before .args .column + c .before .before .loop .i) (pos 0))
 ordinate-fits c = record { sfits = c .o .given }
@@ -80,6 +76,7 @@ returns c ps e size =
 
 pub append-spec : {M : Type 1} → statement M
 append-spec =
-    tie.close (tie.spec Inv-loop μ-loop loop-holds (λ c. omega arith) (λ c. omega arith) (λ c. omega arith) (λ c. omega arith)
+    tie.close (tie.spec Inv-loop μ-loop (λ c. record { within = omega arith; is = λ ps e size. e ∙ ap fractions (none ps _) })
+    (λ c. omega arith) (λ c. omega arith) (λ c. omega arith) (λ c. omega arith)
     (λ c. let f = ordinate-fits c in simp toZ-ofZ (sfits-widen f)) (λ c. omega arith) (λ c. omega arith) (λ c. omega arith)
     (λ c. omega arith) (λ c. omega arith) (λ c. omega arith) loop-again returns)

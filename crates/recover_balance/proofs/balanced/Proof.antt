@@ -9,9 +9,8 @@ use lib.IntN.{pos}
 use lib.ListN.{length, getD}
 use mir.Syntax.{w64}
 use mir.Val.{SFits, ofZ}
-use mir.ValLaws.{toZ-ofZ}
 use Rattle.base_exact.specs.Rational.{ℚ, int}
-use Rattle.base_exact.proofs.Word.{ofZ-inj}
+use Rattle.base_exact.proofs.Word.{toZ-ofZ, ofZ-inj}
 use Rattle.base_exact.proofs.Rational.{zero-is, zero-num}
 use Rattle.base_exact.proofs.Order.{zero-test, nonzero-test}
 use Rattle.base_fraction.specs.Machine.{fraction, value, FractionFits}
@@ -79,11 +78,7 @@ add-term-requires : tie.Need-add-term-requires Inv-loop μ-loop
 add-term-requires c κs =
     let l = at c in
     let p = l .before .pre .1 in
-    let a = cn-fits c in
-    let b = cd-fits c in
-    let d = jn-fits c in
-    let e = jd-fits c in
-    simp toZ-ofZ (record {
+    simp (toZ-ofZ, cn-fits c, cd-fits c, jn-fits c, jd-fits c) (record {
       sum-fits = l .loop .inv .fitted;
       coefficient-fits = rw (fraction-at (p .1 .of) _ (p .1 .is) (i c) (low c)) (fits-sized _ (p .1 .fit (i c)));
       jump-fits = rw (fraction-at (p .0 .of) _ (p .0 .is) (i c) (low c)) (fits-sized _ (p .0 .fit (i c)));

@@ -67,10 +67,7 @@ module _ (m : tie.After-sum) where
 
   difference : (j : ℕ) → m .sum .result ≡ counted (fitted j (value (whole .args .coefficient) -ᵠ value (share at-share)))
   difference j =
-      let f = num-fits (share-sized at-share) in
-      let g = den-fits (share-sized at-share) in
-      let h = negated-fits at-share in
-      (simp toZ-ofZ at (m .sum .ensures))
+      (simp (toZ-ofZ, num-fits (share-sized at-share), den-fits (share-sized at-share), negated-fits at-share) at (m .sum .ensures))
       ∙ machine-sized j _
       ∙ ap (λ q. counted (fitted j (value (whole .args .coefficient) +ᵠ q))) (neg-value (share at-share) (share-sized at-share .den-pos))
 
@@ -82,16 +79,13 @@ module _ (m : tie.After-sum) where
   unfolding undoneCoefficient
   after-share j v a b e h = fits-then (fitted j ((int (pos 1) -ᵠ v) *ᵠ b)) (subtracted j v a) (share at-share) (sym (share-is (at-product at-share) j v b e h) ∙ at-share .share .given .1)
 
-sub-t12 : tie.Need-sub-t12
-sub-t12 c = let s = c .before .before .before in let f = num-fits (share-sized s) in simp toZ-ofZ (negated-fits s)
-
 sum-requires : tie.Need-sum-requires
 sum-requires c κs =
     let s = c .before .before .before in
-    let f = num-fits (share-sized s) in
-    let g = den-fits (share-sized s) in
-    let h = negated-fits s in
-    record { first = start (at-product s) .pre .coefficient-fits; second = simp toZ-ofZ (neg-sized (share s) (share-sized s)) }
+    record {
+      first = start (at-product s) .pre .coefficient-fits;
+      second = simp (toZ-ofZ, num-fits (share-sized s), den-fits (share-sized s), negated-fits s) (neg-sized (share s) (share-sized s));
+    }
 
 quotient-requires : tie.Need-quotient-requires
 quotient-requires c κs =
@@ -125,5 +119,6 @@ returns-3 c j v a b e h k =
 
 pub undo-coefficient-spec : {M : Type 1} → statement M
 undo-coefficient-spec =
-    tie.close (tie.spec (λ c κs. search needs) (λ c κs. search needs) (λ c. search needs) (λ c. search needs) sub-t12 sum-requires
-    (λ c. search needs) (λ c. search needs) quotient-requires returns returns-2 returns-3)
+    tie.close (tie.spec (λ c κs. search needs) (λ c κs. search needs) (λ c. search needs) (λ c. search needs)
+    (λ c. let s = c .before .before .before in simp (toZ-ofZ, num-fits (share-sized s)) (negated-fits s)) sum-requires (λ c. search needs)
+    (λ c. search needs) quotient-requires returns returns-2 returns-3)

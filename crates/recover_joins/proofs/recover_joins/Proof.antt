@@ -14,16 +14,15 @@ use Rattle.base_fraction.specs.declared.arrays.Fractions.{Fractions}
 use Rattle.base_outcome.specs.Outcome.{answer, capped, repeat}
 use Rattle.spec_spline.specs.Space.{Space, segments, degree, firstColumn, conditionCount, conditionsBefore, rowCount}
 use Rattle.spec_spline.specs.Table.{Table, identity}
-use Rattle.spec_spline.proofs.Space.{firstColumn-mono}
 use Rattle.build_space.specs.Machine.{space}
 use Rattle.build_space.specs.Legal.{PartLegal}
-use Rattle.build_space.proofs.Bounds.{first-column-zero, first-column-next, conditions-before-zero}
+use Rattle.build_space.proofs.Bounds.{conditions-before-zero}
 use Rattle.build_space.proofs.Legal.{legal-degree-high, legal-row-count-sum}
 use Rattle.build_factors.specs.Jumps.{AllFit}
 use Rattle.build_joins.specs.Leaves.{Start}
 use Rattle.base_outcome.specs.declared.Answer.the-variants.{Count, Refused}
 use Rattle.build_joins.proofs.Grown.{first-proper}
-use Rattle.build_joins.proofs.Joins.{AtJoin, at-join}
+use Rattle.build_joins.proofs.Joins.{Beginning, beginning, AtJoin, at-join}
 use Rattle.build_step.proofs.Repeated.{State, holds, goes-on, ends, all-done}
 use Rattle.build_joins.proofs.Turns.{later-none}
 use Rattle.spec_calls.specs.Recovery.{recoverOrders, recoverJoins, recovered}
@@ -59,30 +58,20 @@ lists c = space (c .args .breaks .now) (c .args .degrees .now) (c .args .orders 
 
 -- ---- before the first join
 
-degree-at-requires : tie.Need-degree-at-requires Inv-loop μ-loop
-degree-at-requires c κs = (omega (arith, c .pre .part .lists .order-count), c .pre .part .lists .degrees-legal)
-
 add-rows : tie.Need-add-rows Inv-loop μ-loop
 add-rows c =
     let l = c .before .pre .part .lists in
     omega (arith, c .degree-at .ensures, legal-degree-high _ _ _ l 0 (omega (arith, l .order-count)))
 
 -- the first segment's rows
-module _ (c : tie.After-degree-at Inv-loop μ-loop) where
-  first-rows : c .degree-at .result + 1 ≡ firstColumn (lists (c .before)) 1
-  first-rows = omega (arith, c .degree-at .ensures, first-column-zero (lists (c .before)), first-column-next (lists (c .before)) 0)
-
-  first-few : firstColumn (lists (c .before)) 1 ≤ c .before .args .columns
-  first-few =
-      let p = c .before .pre in
-      let s = lists (c .before) in
-      omega (arith, firstColumn-mono s 1 (segments s) (omega (arith, p .part .lists .order-count)), p .start .count)
+begun : (c : tie.After-degree-at Inv-loop μ-loop) → Beginning (lists (c .before)) (c .before .args .columns) (c .degree-at .result + 1)
+begun c = let p = c .before .pre in beginning _ _ _ (p .part) _ _ (p .start .count) (c .degree-at .ensures)
 
 append-requires : tie.Need-append-requires Inv-loop μ-loop
 append-requires c κs =
     let p = c .before .before .pre in
-    let f = c .before in
-    (omega (arith, first-rows f, first-few f, p .start .room), omega (arith, first-rows f, first-few f, p .given .count))
+    let b = begun (c .before) in
+    (omega (arith, b .rows-few, p .start .room), omega (arith, b .rows-few, p .given .count))
 
 loop-holds : tie.Need-loop-holds Inv-loop μ-loop
 unfolding repeat
@@ -94,9 +83,10 @@ loop-holds c =
     let n = g .args .columns in
     let os = g .args .ordinates .now in
     let m = firstColumn s 1 in
+    let few : m ≤ n = omega (arith, begun f .rows-are, begun f .rows-few) in
     record {
       within = omega arith;
-      rows-are = omega (arith, conditions-before-zero s, first-rows f);
+      rows-are = omega (arith, conditions-before-zero s, begun f .rows-are);
       num-long = refl;
       den-long = refl;
       part = g .pre .part;
@@ -111,14 +101,14 @@ loop-holds c =
             (ap (map int) (sym (take-append-drop m os)) ∙ map-append (take m os) (drop m os));
         sound = subst (λ (k : ℕ). Sound (record { table = take m (identity n); coefficients = map int (take m os) }) k n)
             (let z : m ≡ m - conditionsBefore s 0 = omega (arith, conditions-before-zero s) in z) (record {
-              proper = first-proper m n (first-few f) (b .room);
-              count = columns-count os 0 m (omega (arith, first-few f, g .pre .given .count));
+              proper = first-proper m n few (b .room);
+              count = columns-count os 0 m (omega (arith, few, g .pre .given .count));
               fit = columns-fit os 0 m (g .pre .given .fit);
             });
         num-is = b .holds .num-is;
         den-is = b .holds .den-is;
       };
-      is = c .append .ensures [] (c .before .no-fractions .ensures) refl ∙ ap (λ k. fractions (map int (take k os))) (first-rows f);
+      is = c .append .ensures [] (c .before .no-fractions .ensures) refl ∙ ap (λ k. fractions (map int (take k os))) (begun f .rows-are);
     }
 
 -- ---- the turn that the code takes
@@ -287,13 +277,15 @@ returns-2 c =
 
 pub recover-joins-spec : {M : Type 1} → statement M
 recover-joins-spec =
-    tie.close (tie.spec Inv-loop μ-loop degree-at-requires add-rows (λ c κs. search needs) append-requires loop-holds
+    tie.close (tie.spec Inv-loop μ-loop (λ c κs. (omega (arith, c .pre .part .lists .order-count), c .pre .part .lists .degrees-legal))
+    add-rows (λ c κs. search needs) append-requires loop-holds
     (λ c κs. let s = c .before .before .before .before .before in (turn c .taken, s .pre .part .lists .orders-legal))
     (λ c. let t = turn (c .before) in omega (arith, t .taken, t .count, t .few)) degree-at-requires-2 add-more join-at-requires
     recover-join-requires (λ c κs. search needs) (λ c. search needs)
     (λ c. let x = sides (called c) in omega (arith, more-is x, here x .low))
     (λ c. let x = sides (called c) in omega (arith, here x .enough)) (λ c. search needs) (λ c κs. search needs)
     (λ c. let b = c .before .before .before .before .before .before .before in num-same b)
-    (λ c. let b = c .before .before .before .before .before .before .before in den-same b) returns (λ c. omega (arith, here (sides (called c)) .small))
+    (λ c. let b = c .before .before .before .before .before .before .before in den-same b) returns
+    (λ c. omega (arith, here (sides (called c)) .small))
     (λ c. let t = turn (sides (called c) .before .before .before) in omega (arith, t .taken)) loop-again
     (λ c. c .before .loop .inv .num-long) (λ c. c .before .loop .inv .den-long) returns-2)

@@ -53,9 +53,8 @@ returns : tie.Need-returns
 unfolding counted
 returns c j us ps e h =
     let s = start (c .before) in
-    let n = cn-fits (c .before) in
-    let d = cd-fits (c .before) in
-    ap Fits (simp toZ-ofZ (fraction-at ps _ h (s .args .i) (s .pre .within))) ∙ sym (ap counted (first-row j us ps (s .args .f) (s .args .i) (c .if1 .taken)))
+    ap Fits (simp (toZ-ofZ, cn-fits (c .before), cd-fits (c .before))
+    (fraction-at ps _ h (s .args .i) (s .pre .within))) ∙ sym (ap counted (first-row j us ps (s .args .f) (s .args .i) (c .if1 .taken)))
 
 -- of its factor and of the row before
 module _ (c : tie.After-bd) where
@@ -86,14 +85,8 @@ undo-coefficient-requires c κs =
     let s = start (own c) in
     let n = s .pre .coefficients in
     let u = s .pre .factors in
-    let a1 = cn-fits (own c) in
-    let a2 = cd-fits (own c) in
-    let a3 = wn-fits c in
-    let a4 = wd-fits c in
-    let a5 = bn-fits c in
-    let a6 = bd-fits c in
     let e = fraction-at (u .of) _ (u .is) (d c) (omega (arith, s .pre .within)) in
-    simp toZ-ofZ (record {
+    simp (toZ-ofZ, cn-fits (own c), cd-fits (own c), wn-fits c, wd-fits c, bn-fits c, bd-fits c) (record {
       factor = record { of = entry (u .of) (d c); is = e; fit = u .fit (d c); low = u .low (d c); high = u .high (d c) };
       factor-nonzero = λ z. s .pre .nonzero (u .of) (u .is) (d c) (omega arith) (zero-is (entry (u .of) (d c)) (sym (ap (λ (x : Fraction). x .num) e) ∙ z));
       coefficient-fits = rw (fraction-at (n .of) _ (n .is) (s .args .i) (s .pre .within)) (fits-sized _ (n .fit (s .args .i)));

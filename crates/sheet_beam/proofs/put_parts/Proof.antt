@@ -124,12 +124,10 @@ loop-again c =
     (end-is (k .before .before .before .before)) (column-is (k .before .before .before))
     (built .rows-are) (built .num-is) (built .den-is) (c .before .before .put-weights .ensures)
 
-returns : tie.Need-returns Inv-loop μ-loop
-returns c = before-end (c .before .before .before .pre .accepted) (c .before .loop .inv) (omega arith)
-
 pub put-parts-spec : {M : Type 1} → statement M
 put-parts-spec =
     tie.close (tie.spec Inv-loop μ-loop (λ c. before-first _ _ _ _ _)
     (λ c κs. let l = beam-lengths (beam c) (accepted c) in omega (arith, l .order-count)) first-column-requires part-rows-requires
     put-weights-requires add-row loop-less loop-again (λ c. c .before .loop .inv .num-long) (λ c. c .before .loop .inv .den-long)
-    (λ c. puts-length (c .before .loop .inv .put)) returns)
+    (λ c. puts-length (c .before .loop .inv .put))
+    (λ c. before-end (c .before .before .before .pre .accepted) (c .before .loop .inv) (omega arith)))

@@ -27,9 +27,6 @@ Inv-loop out₀ at lows next₀ k₀ out next k = Inv out₀ at lows out next k
 abbrev μ-loop : tie.MeasureT-loop
 μ-loop out₀ at lows next₀ k₀ out next k = length lows - k
 
-loop-holds : tie.Need-loop-holds Inv-loop μ-loop
-loop-holds c = record { within = omega arith; put = puts-as (sym lowLines-none) (puts-none _ _) }
-
 loop-again : tie.Need-loop-again Inv-loop μ-loop
 loop-again c =
     let l = c .before .before .before .before .before .before .loop in
@@ -50,5 +47,6 @@ returns c =
 
 pub put-low-lines-spec : {M : Type 1} → statement M
 put-low-lines-spec =
-    tie.close (tie.spec Inv-loop μ-loop loop-holds (λ c. omega arith) (λ c. omega arith) (λ c κs. omega arith) (λ c. omega arith)
-    (λ c. omega arith) loop-again (λ c. puts-length (c .before .loop .inv .put)) returns)
+    tie.close (tie.spec Inv-loop μ-loop (λ c. record { within = omega arith; put = puts-as (sym lowLines-none) (puts-none _ _) })
+    (λ c. omega arith) (λ c. omega arith) (λ c κs. omega arith) (λ c. omega arith) (λ c. omega arith) loop-again
+    (λ c. puts-length (c .before .loop .inv .put)) returns)

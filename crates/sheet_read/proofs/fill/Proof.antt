@@ -117,9 +117,6 @@ module _ (c : tie.After-numeral Inv-loop μ-loop) where
         filled-next zs (slice (stop + 1) to text) before list n z (filled .room)
         (store _ (field-more isSeparator text start to stop range (c .before .separator .ensures) h))
 
-returns-2 : tie.Need-returns-2 Inv-loop μ-loop
-returns-2 c = absurd (not-bad (c .before .before) (c .enum-told .given .1))
-
 mul-z : tie.Need-mul-z Inv-loop μ-loop
 mul-z c = omega (arith, below (c .before .before .before) _ (c .before .field .given .1), room (c .before .before .before))
 
@@ -133,9 +130,6 @@ returns-3 c =
     let done = last (c .before .before .before .before) _ (f .given .1) (c .if2 .taken) in
     simp toZ-ofZ (record { count = done .0; put = done .1 })
 
-add-start : tie.Need-add-start Inv-loop μ-loop
-add-start c = let k = c .before .before .before .before in omega (arith, stops k, begun k .good .0)
-
 loop-again : tie.Need-loop-again Inv-loop μ-loop
 loop-again c =
     let f = c .before .before .field in
@@ -147,7 +141,9 @@ loop-again c =
 pub fill-spec : {M : Type 1} → statement M
 fill-spec =
     tie.close (tie.spec Inv-loop μ-loop returns loop-holds (λ c κs. omega arith) numeral-requires (λ c. search needs)
-    (λ c. absurd (not-bad (c .before .before) (c .enum-told .given .1))) returns-2 (λ c. search needs) mul-z
+    (λ c. absurd (not-bad (c .before .before) (c .enum-told .given .1)))
+    (λ c. absurd (not-bad (c .before .before) (c .enum-told .given .1))) (λ c. search needs) mul-z
     (λ c. below (c .before .before .before) _ (c .before .field .given .1)) add-n
-    (λ c. simp length-set (filled-length _ _ _ _ _ (filled (c .before .before .before .before)))) returns-3 add-start
+    (λ c. simp length-set (filled-length _ _ _ _ _ (filled (c .before .before .before .before)))) returns-3
+    (λ c. let k = c .before .before .before .before in omega (arith, stops k, begun k .good .0))
     (λ c. omega (arith, stops (c .before .before .before .before))) loop-again)

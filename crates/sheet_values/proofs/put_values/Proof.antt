@@ -30,9 +30,6 @@ Inv-loop out₀ at positions values next₀ k₀ out next k = Inv out₀ at posi
 abbrev μ-loop : tie.MeasureT-loop
 μ-loop out₀ at positions values next₀ k₀ out next k = length positions - k
 
-loop-holds : tie.Need-loop-holds Inv-loop μ-loop
-loop-holds c = record { within = omega arith; put = puts-as (sym (valueLines-none _)) (puts-none _ _) }
-
 loop-again : tie.Need-loop-again Inv-loop μ-loop
 loop-again c =
     let l = c .before .before .before .before .before .before .before .before .loop in
@@ -60,6 +57,7 @@ returns c =
 
 pub put-values-spec : {M : Type 1} → statement M
 put-values-spec =
-    tie.close (tie.spec Inv-loop μ-loop loop-holds (λ c. omega arith) (λ c. omega arith) (λ c. omega arith) (λ c. omega arith)
-    (λ c. omega arith) (λ c. omega arith) (λ c. omega arith) (λ c. omega arith) (λ c. omega arith) (λ c κs. omega arith) (λ c. omega arith)
-    (λ c. omega arith) loop-again (λ c. puts-length (c .before .loop .inv .put)) returns)
+    tie.close (tie.spec Inv-loop μ-loop (λ c. record { within = omega arith; put = puts-as (sym (valueLines-none _)) (puts-none _ _) })
+    (λ c. omega arith) (λ c. omega arith) (λ c. omega arith) (λ c. omega arith) (λ c. omega arith) (λ c. omega arith) (λ c. omega arith)
+    (λ c. omega arith) (λ c. omega arith) (λ c κs. omega arith) (λ c. omega arith) (λ c. omega arith) loop-again
+    (λ c. puts-length (c .before .loop .inv .put)) returns)

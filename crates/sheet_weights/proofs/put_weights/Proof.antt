@@ -27,9 +27,6 @@ Inv-loop out₀ at row column n num den cells next₀ k₀ out next k = Inv out�
 abbrev μ-loop : tie.MeasureT-loop
 μ-loop out₀ at row column n num den cells next₀ k₀ out next k = cells - k
 
-loop-holds : tie.Need-loop-holds Inv-loop μ-loop
-loop-holds c = record { within = omega arith; put = puts-as (sym (cells-none _ _ _ _)) (puts-none _ _) }
-
 loop-again : tie.Need-loop-again Inv-loop μ-loop
 loop-again c =
     let l = c .before .before .before .before .before .before .before .loop in
@@ -51,6 +48,7 @@ returns c =
 
 pub put-weights-spec : {M : Type 1} → statement M
 put-weights-spec =
-    tie.close (tie.spec Inv-loop μ-loop (λ c. omega arith) loop-holds (λ c. omega arith) (λ c. omega arith) (λ c. omega arith)
-    (λ c. omega arith) (λ c κs. omega arith) (λ c. omega arith) (λ c. omega arith) loop-again (λ c. puts-length (c .before .loop .inv .put))
-    returns)
+    tie.close (tie.spec Inv-loop μ-loop (λ c. omega arith)
+    (λ c. record { within = omega arith; put = puts-as (sym (cells-none _ _ _ _)) (puts-none _ _) }) (λ c. omega arith) (λ c. omega arith)
+    (λ c. omega arith) (λ c. omega arith) (λ c κs. omega arith) (λ c. omega arith) (λ c. omega arith) loop-again
+    (λ c. puts-length (c .before .loop .inv .put)) returns)

@@ -8,13 +8,14 @@ use lib.Seq.{slice}
 use Rattle.base_outcome.specs.Search.{or-else}
 use Rattle.spec_tucson.specs.Shown.{isBlankLine}
 use Rattle.spec_tucson.specs.KeptLines.{readsStrictly}
-use Rattle.tucson_header.specs.Machine.{lineFound}
-use Rattle.tucson_header.proofs.HeaderLines.{found-kept, found-blank, found-strict, found-other}
+use Rattle.tucson_lines.specs.Machine.{lineFound}
+use Rattle.tucson_lines.proofs.Found.{line-kept}
+use Rattle.tucson_header.proofs.HeaderLines.{found-blank, found-strict, found-other}
 use Rattle.tucson_header.proofs.strict_found.Statement.{statement}
 use Rattle.tucson_header.proofs.strict_found.Tie as tie
 
 returns : tie.Need-returns
-returns c = found-kept (c .before .before .args .found) _ (c .if1 .taken)
+returns c = line-kept (c .before .before .args .found) _ (c .if1 .taken)
 
 returns-2 : tie.Need-returns-2
 returns-2 c =

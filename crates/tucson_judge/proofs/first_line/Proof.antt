@@ -3,8 +3,8 @@ use mathlib.Core.Bool.{Bool, cond}
 use mathlib.Core.Option.{Option, some, none}
 use mathlib.Core.Path.{_≡_, sym, _∙_, ap}
 use Rattle.base_outcome.specs.Search.{or-else}
-use Rattle.tucson_judge.specs.Judging.{lineFound}
-use Rattle.tucson_judge.proofs.Closing.{line-kept, no-line, line-some, line-none}
+use Rattle.tucson_lines.specs.Machine.{lineFound}
+use Rattle.tucson_lines.proofs.Found.{line-kept, no-line, line-some, line-none}
 use Rattle.tucson_judge.proofs.first_line.Statement.{statement}
 use Rattle.tucson_judge.proofs.first_line.Tie as tie
 

@@ -17,7 +17,8 @@ use Rattle.spec_tucson.specs.CleanSeries.{runsIn, orFault}
 use Rattle.tucson_fields.specs.Machine.{FactsOf, NumbersOf}
 use Rattle.tucson_fields.specs.declared.Facts.{Facts}
 use Rattle.tucson_fields.proofs.LineFields.{stands}
-use Rattle.tucson_judge.specs.Judging.{lineFound, markFound, closingFaultOf}
+use Rattle.tucson_lines.specs.Machine.{lineFound}
+use Rattle.tucson_judge.specs.Judging.{markFound, closingFaultOf}
 use Rattle.tucson_judge.proofs.Verdict.{judged-on, judged-closed}
 use Rattle.tucson_judge.proofs.judge.Statement.{statement}
 use Rattle.tucson_judge.proofs.judge.Tie as tie

@@ -4,7 +4,8 @@ use Prim.Native.Nat.{ℕ, _+_, _-_, _≤_}
 use native.Mathlib.Omega.{arith}
 use lib.ListN.{length, drop}
 use Rattle.spec_tucson.specs.KeptLines.{sameText}
-use Rattle.tucson_names.proofs.NameColumns.{same-lengths, same-over, same-next, same-differs}
+use Rattle.spec_tucson.proofs.Lines.{same-lengths}
+use Rattle.tucson_names.proofs.NameColumns.{same-over, same-next, same-differs}
 use Rattle.tucson_names.proofs.same_text.Statement.{statement}
 use Rattle.tucson_names.proofs.same_text.Tie as tie
 

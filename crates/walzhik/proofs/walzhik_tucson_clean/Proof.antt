@@ -1,7 +1,7 @@
 -- The exported call meets its contract: the answer of the call behind it, as a struct. Assumes nothing.
 use borrow.Author.Needs.{needs}
 use mathlib.Core.Path.{ap, _∙_}
-use Rattle.walzhik.specs.File.{cleaned}
+use Rattle.walzhik_structs.specs.File.{cleaned}
 use Rattle.walzhik.proofs.walzhik_tucson_clean.Statement.{statement}
 use Rattle.walzhik.proofs.walzhik_tucson_clean.Tie as tie
 

@@ -1,7 +1,7 @@
 -- Before the turn at a the parts before segment a are recovered: the weight buffers hold the last of them, the answer buffers the
 -- coefficients of all; one part more, or its refusal, and after the last part the beam. Assumes nothing.
 use borrow.Author.Needs.{needs}
-use mathlib.Core.List.{List, _++_}
+use mathlib.Core.List.{List}
 use mathlib.Core.Path.{_≡_, refl, sym, _∙_, ap, subst}
 use Prim.Native.Nat.{ℕ, _+_, _-_, _<_, _≤_}
 use native.Mathlib.Omega.{arith}
@@ -15,12 +15,10 @@ use Rattle.build_space.specs.Machine.{space}
 use Rattle.build_space.proofs.Legal.{legal-column-count-high}
 use Rattle.build_space.proofs.Partial.{part-end-partial}
 use Rattle.base_outcome.specs.Machine.{reply}
-use Rattle.base_outcome.specs.declared.Answer.the-variants.{Count, Refused}
+use Rattle.base_outcome.specs.declared.Answer.the-variants.{Count}
 use Rattle.base_outcome.proofs.Reply.{Counted, count-inverts, refused-inverts}
 use Rattle.spec_calls.specs.Recovery.{Combination, recovered}
-use Rattle.spec_calls.specs.RecoveryCall.{listed, numeratorOf, denominatorOf}
 use Rattle.recover_joins.specs.Leaves.{JoinsLeave}
-use Rattle.recover.specs.Leaves.{BeamEnds}
 use Rattle.recover_joins.specs.declared.Joined.{Joined}
 use Rattle.recover.proofs.Beam.{part-told, Before, before-first, starts, rows-within, more-within, part-rows, part-count, part-more}
 use Rattle.recover.proofs.Beam.{part-refused, parts-done}
@@ -191,13 +189,9 @@ returns c =
     let k = c .before .before .before .before .before .before .before .before .clear in
     let k2 = c .before .before .before .clear2 in
     let v = at m .loop .inv in
-    subst (λ (place : ℕ). BeamEnds (s m) (length (given m)) (recovered (s m) (given m)) (Refused (b .0 .0) place) (g .args .num .now) (g .args .den .now)
-    (g .args .coef-num .now) (g .args .coef-den .now) (k .last .0) (k .last .1 .0) (k2 .last .0)
-    (k2 .last .1 .0))
-    (sym (c .place .ensures))
-    (part-refused _ _ _ (g .pre .legal) (given m) (g .pre .given .count) (state m) (turn m) r
+    part-refused _ _ _ (g .pre .legal) (given m) (g .pre .given .count) (state m) (turn m) (c .place .ensures) r
     (omega (arith, g .pre .room .num-long, v .num-long)) (omega (arith, g .pre .room .den-long, v .den-long))
-    (g .pre .coef-num-long) (g .pre .coef-den-long) (h .1) (h .2) (k .ensures .0) (k .ensures .1) (k2 .ensures .0) (k2 .ensures .1))
+    (g .pre .coef-num-long) (g .pre .coef-den-long) (h .1) (h .2) (k .ensures .0) (k .ensures .1) (k2 .ensures .0) (k2 .ensures .1)
 
 -- ---- the part is answered
 write-requires : tie.Need-write-requires Inv-loop μ-loop
@@ -252,13 +246,8 @@ loop-again c =
       den-long = den-same m;
       coef-num-long = w .write .kept .0 ∙ v .coef-num-long;
       coef-den-long = w .write .kept .1 .0 ∙ v .coef-den-long;
-      state = subst (λ (e : ℕ). Before (s m) (given m) (g .args .num .now) (g .args .den .now) (g .args .coef-num .now) (g .args .coef-den .now) (num-after m)
-          (den-after m) (w .write .last .0) (w .write .last .1 .0) (at m .loop .rows + rows-of c) e) (sym (end-is (ended m)))
-          (subst (λ (k : ℕ). Before (s m) (given m) (g .args .num .now) (g .args .den .now) (g .args .coef-num .now) (g .args .coef-den .now) (num-after m)
-          (den-after m) (w .write .last .0) (w .write .last .1 .0) (at m .loop .rows + k) (partEnd (s m) (first (ended m)))) (sym n)
-          (part-more _ _ _ (g .pre .legal) (given m) (g .pre .given .count) b (turn m) (x .is) (q .1) (q .2)
-          (z .num-is ∙ ap (λ (k : ℕ). listed numeratorOf (at m .loop .rows + k) (b .coefficients ++ x .result .coefficients) (g .args .coef-num .now)) n)
-          (z .den-is ∙ ap (λ (k : ℕ). listed denominatorOf (at m .loop .rows + k) (b .coefficients ++ x .result .coefficients) (g .args .coef-den .now)) n)));
+      state = part-more _ _ _ (g .pre .legal) (given m) (g .pre .given .count) b (turn m) (x .is) (q .1) (q .2) n (end-is (ended m))
+          (z .num-is) (z .den-is);
     }
 
 -- ---- after the last part
