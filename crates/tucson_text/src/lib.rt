@@ -33,20 +33,29 @@ fn sum(counts: &[u32]) -> usize
 }
 
 // The series of a text that is not too long, read and written again, or the line of its refusal. What is read can always be
-// written, so the second refusal is never met.
-fn rewrite(input: &[u8], out: &mut [u8; limits::TEXT_LIMIT]) -> usize
+// written, so the second refusal is never met. The lent lists take what is read: what they hold before does not matter, and what
+// they hold afterwards is of no use.
+fn rewrite_over(
+    input: &[u8],
+    names: &mut [u8; NAMES],
+    years: &mut [i32; SERIES],
+    counts: &mut [u32; SERIES],
+    widths: &mut [i32; WIDTHS],
+    out: &mut [u8; limits::TEXT_LIMIT],
+) -> usize
     requires { ⌜ length (now input) ≤ textLimit ⌝ }
     ensures { λ r. ⌜ Prints (length (now (out .exit))) (outcomeText (readText (now (input .entry)))) (now (out .entry))
         (now (out .exit)) r ⌝ }
 {
-    let mut names = [0u8; NAMES];
-    let mut years = [0i32; SERIES];
-    let mut counts = [0u32; SERIES];
-    let mut widths = [0i32; WIDTHS];
-    let series = tucson_read::read(input, &mut names, &mut years, &mut counts, &mut widths);
+    let series = tucson_read::read(input, names, years, counts, widths);
     match series {
         base_outcome::Answer::Refused(code, place) => base_print::refusal(code, place, out),
         base_outcome::Answer::Count(n) => {
+            // The lists as slices, of which parts are lent below.
+            let names: &[u8] = names;
+            let years: &[i32] = years;
+            let counts: &[u32] = counts;
+            let widths: &[i32] = widths;
             let bytes = n * limits::NAME_COLUMNS;
             let widths_read = sum(&counts[..n]);
             let text = tucson_write::write(
@@ -62,6 +71,19 @@ fn rewrite(input: &[u8], out: &mut [u8; limits::TEXT_LIMIT]) -> usize
             }
         }
     }
+}
+
+// The same with lists of its own.
+fn rewrite(input: &[u8], out: &mut [u8; limits::TEXT_LIMIT]) -> usize
+    requires { ⌜ length (now input) ≤ textLimit ⌝ }
+    ensures { λ r. ⌜ Prints (length (now (out .exit))) (outcomeText (readText (now (input .entry)))) (now (out .entry))
+        (now (out .exit)) r ⌝ }
+{
+    let mut names = [0u8; NAMES];
+    let mut years = [0i32; SERIES];
+    let mut counts = [0u32; SERIES];
+    let mut widths = [0i32; WIDTHS];
+    rewrite_over(input, &mut names, &mut years, &mut counts, &mut widths, out)
 }
 
 // The whole program: what the filter gives for a text, at the front of the lent buffer, which takes it whole. The answer is its
