@@ -24,12 +24,13 @@ pub fn no_fractions() -> Fractions
     }
 }
 
-// The fraction at index i.
-pub fn fraction_at(qs: Fractions, i: usize) -> Fraction
+// The fraction at index i of the two arrays. They are lent, because a struct that is given to a call is copied.
+pub fn fraction_at<'a>(num: &'a [i64; ROW_CELLS], den: &'a [i64; ROW_CELLS], i: usize) -> Fraction
     requires { ⌜ i < rowCells ⌝ }
-    ensures { λ r. ⌜ ((of : List ℚ) → qs ≡ fractions of → r ≡ fraction (fractionAt of i)) ⌝ }
+    ensures { λ r. ⌜ ((of : List ℚ) → record { num = now (num .entry); den = now (den .entry) } ≡ fractions of
+        → r ≡ fraction (fractionAt of i)) ⌝ }
 {
-    let n = qs.num[i];
-    let d = qs.den[i];
+    let n = num[i];
+    let d = den[i];
     Fraction { num: n, den: d }
 }

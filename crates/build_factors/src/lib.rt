@@ -105,14 +105,11 @@ pub fn factors(js: Fractions, f: usize, l: usize) -> RowFactors
 {
     let mut ws = arrays::no_fractions();
     ws.num[0] = 1;
-    let sn = js.num[f];
-    let sd = js.den[f];
-    let mut sum = Fraction { num: sn, den: sd };
+    let mut sum = arrays::fraction_at(&js.num, &js.den, f);
     let mut i = f + 1;
     while i < l {
-        let jn = js.num[i];
-        let jd = js.den[i];
-        let next = factor(sum, Fraction { num: jn, den: jd });
+        let jump = arrays::fraction_at(&js.num, &js.den, i);
+        let next = factor(sum, jump);
         let refusal = next.refusal;
         match refusal {
             StepRefusal::None => {

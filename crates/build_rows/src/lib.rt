@@ -15,6 +15,7 @@ ghost use Rattle.base_fraction.specs.Fractions.{fractions};
 ghost use Rattle.build_rows.specs.Rows.{UnitFactors};
 use base_fraction::Counted;
 use base_fraction::Fraction;
+use base_fraction::arrays;
 use base_fraction::arrays::Fractions;
 
 // Row i becomes w times itself plus u times the next row; false where a counted fraction is too large.
@@ -76,12 +77,9 @@ pub fn mix_rows(
     let mut i = f;
     while i < l {
         let d = i - f;
-        let wn = ws.num[d];
-        let wd = ws.den[d];
-        let vn = ws.num[d + 1];
-        let vd = ws.den[d + 1];
-        let w = Fraction { num: wn, den: wd };
-        let u = build_entry::complement(Fraction { num: vn, den: vd });
+        let w = arrays::fraction_at(&ws.num, &ws.den, d);
+        let v = arrays::fraction_at(&ws.num, &ws.den, d + 1);
+        let u = build_entry::complement(v);
         let done = mix_row(num, den, i, w, u, columns);
         if !done {
             return false;

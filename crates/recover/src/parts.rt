@@ -29,7 +29,7 @@ fn write(coef_num: &mut [i64], coef_den: &mut [i64], from: usize, cs: Fractions,
 {
     let mut i = 0;
     while i < n {
-        let q = arrays::fraction_at(cs, i);
+        let q = arrays::fraction_at(&cs.num, &cs.den, i);
         let p = q.num;
         let d = q.den;
         let k = from + i;

@@ -11,6 +11,7 @@ ghost use Rattle.recover_balance.specs.Machine.{balanceOf};
 ghost use Rattle.recover_counted.specs.Machine.{FractionsFit};
 use base_fraction::Counted;
 use base_fraction::Fraction;
+use base_fraction::arrays;
 use base_fraction::arrays::Fractions;
 
 // The sum of coefficients times jumps.
@@ -29,15 +30,9 @@ pub fn balanced(js: Fractions, cs: Fractions, rows: usize) -> Balance
     let mut sum = Fraction { num: 0, den: 1 };
     let mut i = 0;
     while i < rows {
-        let cn = cs.num[i];
-        let cd = cs.den[i];
-        let jn = js.num[i];
-        let jd = js.den[i];
-        let next = recover_counted::add_term(
-            sum,
-            Fraction { num: cn, den: cd },
-            Fraction { num: jn, den: jd },
-        );
+        let coefficient = arrays::fraction_at(&cs.num, &cs.den, i);
+        let jump = arrays::fraction_at(&js.num, &js.den, i);
+        let next = recover_counted::add_term(sum, coefficient, jump);
         match next {
             Counted::Fits(s) => {
                 sum = s;

@@ -10,7 +10,6 @@ ghost use Rattle.build_counted.specs.Machine.{counted};
 ghost use Rattle.spec_calls.specs.Recovery;
 ghost use Rattle.recover_rows.specs.Machine.{undoneOf, RowAsks, RowsAsk};
 use base_fraction::Counted;
-use base_fraction::Fraction;
 use base_fraction::arrays;
 use base_fraction::arrays::Fractions;
 
@@ -26,20 +25,13 @@ fn undo_row(cs: Fractions, ws: Fractions, f: usize, i: usize) -> Counted
     ensures { λ r. ⌜ ((j : ℕ) (us ps : List ℚ) → ws ≡ fractions us → cs ≡ fractions ps
         → r ≡ counted (Recovery.undoneRow j us ps f (i - f) (drop f ps))) ⌝ }
 {
-    let cn = cs.num[i];
-    let cd = cs.den[i];
+    let coefficient = arrays::fraction_at(&cs.num, &cs.den, i);
     if i == f {
-        return Counted::Fits(Fraction { num: cn, den: cd });
+        return Counted::Fits(coefficient);
     }
-    let wn = ws.num[i - f];
-    let wd = ws.den[i - f];
-    let bn = cs.num[i - 1];
-    let bd = cs.den[i - 1];
-    recover_counted::undo_coefficient(
-        Fraction { num: wn, den: wd },
-        Fraction { num: cn, den: cd },
-        Fraction { num: bn, den: bd },
-    )
+    let factor = arrays::fraction_at(&ws.num, &ws.den, i - f);
+    let before = arrays::fraction_at(&cs.num, &cs.den, i - 1);
+    recover_counted::undo_coefficient(factor, coefficient, before)
 }
 
 // The new coefficients of the rows f to l - 1, rows rising; the others as they were.

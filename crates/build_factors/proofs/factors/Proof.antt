@@ -6,7 +6,6 @@ use mathlib.Core.List.{List, [], _∷_, _++_}
 use mathlib.Core.Logic.{_≢_}
 use Prim.Native.Nat.{ℕ, suc, _+_, _-_, _<_, _≤_}
 use lib.IntN.{pos}
-use lib.ListN.{getD}
 use mir.Syntax.{w64}
 use mir.Val.{SFits}
 use mir.ValLaws.{toZ-ofZ}
@@ -25,7 +24,7 @@ use Rattle.spec_spline.proofs.Step.{partial-first, partial-more}
 use Rattle.spec_spline.proofs.Answers.{factor-answers}
 use Rattle.base_fraction.specs.Fractions.{fractions}
 use Rattle.base_fraction.specs.declared.arrays.Fractions.{Fractions}
-use Rattle.base_fraction.proofs.Fractions.{fraction-at, fractions-more, one-fraction}
+use Rattle.base_fraction.proofs.Fractions.{fractions-more, one-fraction}
 use Rattle.build_factors.specs.Machine.{nextFactor}
 use Rattle.build_factors.specs.declared.StepRefusal.{StepRefusal}
 use Rattle.build_factors.specs.declared.StepRefusal.the-variants as refusals
@@ -47,61 +46,60 @@ record Inv (js : Fractions) (f l : ℕ) (ws : Fractions) (sum : Fraction) (i : �
   rest : (qs : List ℚ) (j : ℕ) → js ≡ fractions qs → Collected qs j f i ws
 
 abbrev Inv-loop : tie.InvT-loop
-Inv-loop f l js ws₀ sn sd sum₀ i₀ ws sum i = Inv js f l ws sum i
+Inv-loop f l js ws₀ sum₀ i₀ ws sum i = Inv js f l ws sum i
 
 abbrev μ-loop : tie.MeasureT-loop
-μ-loop f l js ws₀ sn sd sum₀ i₀ ws sum i = l - i
+μ-loop f l js ws₀ sum₀ i₀ ws sum i = l - i
+
+-- the array with 1 at its front, and where the function begins
+abbrev made : tie.After-fraction-at Inv-loop μ-loop → tie.After-no-fractions Inv-loop μ-loop
+made c = c .before .before .before .before
+
+abbrev begun : tie.At-loop Inv-loop μ-loop → tie.Start Inv-loop μ-loop
+begun l = made (l .before) .before
 
 loop-holds : tie.Need-loop-holds Inv-loop μ-loop
 loop-holds c =
-    let s = c .before .before .before in
+    let s = made c .before in
     let f = s .args .f in
-    let n : SFits w64 (getD (s .args .t1 .num) f (pos 0)) = record { sfits = c .before .sn .given } in
-    let d : SFits w64 (getD (s .args .t1 .den) f (pos 0)) = record { sfits = c .sd .given } in
-    let low : f < 72 = omega (arith, s .pre .order, s .pre .within) in
     record {
       after = omega arith;
       within = omega arith;
-      fitted = simp toZ-ofZ (rw (fraction-at (s .pre .of) _ (s .pre .is) f low) (fits-sized (entry (s .pre .of) f) (s .pre .fit f)));
-      sum-is = λ qs e. (simp toZ-ofZ (fraction-at qs _ e f low)) ∙ ap fraction (sym (partial-first qs f) ∙ ap (partialSum qs f) (let z : f ≡ f + 1 - 1 = omega arith in z));
+      fitted = rw (c .fraction-at .ensures (s .pre .of) (s .pre .is)) (fits-sized (entry (s .pre .of) f) (s .pre .fit f));
+      sum-is = λ qs e. c .fraction-at .ensures qs e ∙ ap fraction (sym (partial-first qs f) ∙ ap (partialSum qs f) (let z : f ≡ f + 1 - 1 = omega arith in z));
       rest = λ qs j e. record {
         done = [];
         collects = ap (λ n. collect n (λ d. factor j qs f (f + 1 + d))) (let z : f + 1 - f - 1 ≡ 0 = omega arith in z) ∙ collect-none _;
-        ws-is = one-fraction (c .before .before .no-fractions .result) (c .before .before .no-fractions .ensures);
+        ws-is = one-fraction (made c .no-fractions .result) (made c .no-fractions .ensures);
       };
     }
 
--- the two numbers that are read
-module _ (c : tie.After-jd Inv-loop μ-loop) where
+-- the jump that is read
+module _ (c : tie.After-fraction-at2 Inv-loop μ-loop) where
+  abbrev turn : tie.In-loop Inv-loop μ-loop
+  turn = c .before .before .before .before
+
   abbrev here : tie.At-loop Inv-loop μ-loop
-  here = c .before .before .before
+  here = turn .before
 
   abbrev start : tie.Start Inv-loop μ-loop
-  start = here .before .before .before .before
+  start = begun here
 
-  jn-fits : SFits w64 (getD (start .args .t1 .num) (here .loop .i) (pos 0))
-  jn-fits = record { sfits = c .before .jn .given }
-
-  jd-fits : SFits w64 (getD (start .args .t1 .den) (here .loop .i) (pos 0))
-  jd-fits = record { sfits = c .jd .given }
-
-  low : here .loop .i < 72
-  low = omega (arith, c .before .before .loop-test .taken, start .pre .within)
+  jump-is : (qs : List ℚ) → start .args .t1 ≡ fractions qs → c .fraction-at2 .result ≡ fraction (entry qs (here .loop .i))
+  jump-is qs e = c .fraction-at2 .ensures qs e
 
 factor-requires : tie.Need-factor-requires Inv-loop μ-loop
 unfolding fraction
 factor-requires c κs =
     let p = start c .pre in
     let l = here c .loop in
-    let n = jn-fits c in
-    let d = jd-fits c in
-    let e = fraction-at (p .of) _ (p .is) (l .i) (low c) in
-    simp toZ-ofZ (record {
+    let e = jump-is c (p .of) (p .is) in
+    record {
       before-fits = l .inv .fitted;
       jump-fits = rw e (fits-sized (entry (p .of) (l .i)) (p .fit (l .i)));
       jump-nonzero = λ z. isZero-false (entry (p .of) (l .i)) (p .jump (l .i) (omega arith) (omega arith))
           (zero-is (entry (p .of) (l .i)) (sym (ap (λ (x : Fraction). x .num) e) ∙ z));
-    })
+    }
 
 -- what the call of factor answers, in the definition's terms
 module _ (c : tie.After-factor Inv-loop μ-loop) (qs : List ℚ) (j : ℕ) (e : start (c .before) .args .t1 ≡ fractions qs) where
@@ -121,7 +119,7 @@ module _ (c : tie.After-factor Inv-loop μ-loop) (qs : List ℚ) (j : ℕ) (e : 
   next-is =
       c .factor .ensures j
       ∙ ap₂ (λ s q. nextFactor (s +ᵠ q) (quotientFactor j (s +ᵠ q) q)) (ap value (at-loop .loop .inv .sum-is qs e) ∙ value-fraction _)
-      (let n = jn-fits (c .before) in let d = jd-fits (c .before) in simp toZ-ofZ (ap value (fraction-at qs _ e row (low (c .before))) ∙ value-fraction _))
+      (ap value (jump-is (c .before) qs e) ∙ value-fraction _)
       ∙ ap (λ s. nextFactor s (quotientFactor j s (entry qs row))) (sym (partial-more qs first row (at-loop .loop .inv .after)))
 
   -- the place of the row among those between f and l
@@ -136,7 +134,7 @@ module _ (c : tie.After-factor Inv-loop μ-loop) (qs : List ℚ) (j : ℕ) (e : 
   ended reason h n = next-ended (partialSum qs first row) (factor j qs first row) (c .factor .result) reason next-is h n
 
   stopped : {code place : ℕ} → factor j qs first row ≡ refusal code place → collect (start (c .before) .args .l - first - 1) (λ d. factor j qs first (first + 1 + d)) ≡ refusal code place
-  stopped r = collect-stays (suc (row - first - 1)) _ _ (omega (arith, at-loop .loop .inv .after, c .before .before .before .loop-test .taken))
+  stopped r = collect-stays (suc (row - first - 1)) _ _ (omega (arith, at-loop .loop .inv .after, turn (c .before) .loop-test .taken))
       (collect-ends (row - first - 1) _ (rows-done .collects) (sym place ∙ r))
 
 returns : tie.Need-returns Inv-loop μ-loop
@@ -179,14 +177,14 @@ loop-again c =
 returns-3 : tie.Need-returns-3 Inv-loop μ-loop
 returns-3 c qs j e =
     let l = c .before .loop in
-    let a = c .before .before .before .before .before .args in
+    let a = begun (c .before) .args in
     let y = l .inv .rest qs j e in
     factors-answered j qs _ _ (ap (λ n. collect n (λ d. factor j qs (a .f) (a .f + 1 + d))) (let z : a .l - a .f - 1 ≡ l .i - a .f - 1 = omega arith in z) ∙ y .collects) (y .ws-is)
 
 pub factors-spec : {M : Type 1} → statement M
 factors-spec =
-    tie.close (tie.spec Inv-loop μ-loop (λ c κs. search needs) (λ c. search needs) (λ c. omega arith) (λ c. omega arith) (λ c. omega arith)
-    (λ c. omega arith) (λ c. omega arith) loop-holds (λ c. omega arith) (λ c. omega arith) (λ c. omega arith) (λ c. omega arith)
-    factor-requires (λ c. search needs) (λ c. omega arith) (λ c. omega arith) (λ c. omega arith) (λ c. omega arith) (λ c. omega arith)
-    (λ c. search needs) (λ c κs. search needs) returns (λ c. search needs) (λ c κs. search needs) returns-2 (λ c. omega arith)
-    (λ c. omega arith) loop-again returns-3)
+    tie.close (tie.spec Inv-loop μ-loop (λ c κs. search needs) (λ c. omega arith)
+    (λ c κs. let p = c .before .before .before .before .pre in omega (arith, p .order, p .within)) (λ c. omega arith) loop-holds
+    (λ c κs. let l = c .before .before .before .before in omega (arith, begun l .pre .within)) factor-requires (λ c. search needs) (λ c. omega arith)
+    (λ c. omega arith) (λ c. omega arith) (λ c. omega arith) (λ c. omega arith) (λ c. search needs) (λ c κs. search needs) returns
+    (λ c. search needs) (λ c κs. search needs) returns-2 (λ c. omega arith) (λ c. omega arith) loop-again returns-3)

@@ -7,12 +7,9 @@ use mathlib.Core.List.{List, [], _∷_, _++_}
 use Prim.Native.Nat.{ℕ, suc, _+_, _-_, _<_, _≤_}
 use native.Mathlib.Omega.{arith}
 use native.Mathlib.Numerals.{add-one}
-use lib.IntN.{ℤ, pos}
-use lib.ListN.{length, getD, set, take, drop}
-use mir.Syntax.{w64}
-use mir.Val.{SFits, ofZ, toZ}
-use mir.ValLaws.{toZ-ofZ}
-use Rattle.base_exact.specs.Rational.{ℚ, int, _-ᵠ_}
+use lib.IntN.{ℤ}
+use lib.ListN.{length, set, take, drop}
+use Rattle.base_exact.specs.Rational.{ℚ}
 use Rattle.base_fraction.specs.Size.{fits}
 use Rattle.base_fraction.specs.Machine.{value, FractionFits}
 use Rattle.base_fraction.proofs.Answer.{fits-sized}
@@ -26,7 +23,6 @@ use Rattle.build_cells.proofs.Tables.{renewed, renewed-none, renewed-length, re
 use Rattle.build_cells.proofs.Buffer.{numerators-again, denominators-again, holds-left, kept-numerators, kept-denominators, kept-then}
 use Rattle.base_fraction.specs.Fractions.{fractions}
 use Rattle.base_fraction.specs.declared.arrays.Fractions.{Fractions}
-use Rattle.base_fraction.proofs.Fractions.{fraction-at}
 use Rattle.build_cells.specs.Left.{LeavesIf}
 use Rattle.spec_spline.proofs.TableFits.{newRow-fits}
 use Rattle.build_rows.proofs.Mixing.{set-fits}
@@ -134,8 +130,24 @@ finished {num₀} {den₀} {num} {dens} {f} {i} {t} {j} {qs} l e st =
 
 -- ---- the turn that the code takes
 
+-- where the first factor of two is read
+abbrev first : tie.After-fraction-at2 Inv-loop μ-loop → tie.After-fraction-at Inv-loop μ-loop
+first c = c .before .before .before .before
+
+-- the turn in which it is read
+abbrev turn-of : tie.After-fraction-at Inv-loop μ-loop → tie.In-loop Inv-loop μ-loop
+turn-of c = c .before .before .before .before
+
+-- where the two factors of a row that is mixed are read
+abbrev factors : tie.After-mix-row Inv-loop μ-loop → tie.After-fraction-at2 Inv-loop μ-loop
+factors m = m .before .before .before .before
+
+-- the turn of a row that is mixed
+abbrev turn : tie.After-mix-row Inv-loop μ-loop → tie.In-loop Inv-loop μ-loop
+turn m = turn-of (first (factors m))
+
 abbrev at-loop : tie.After-mix-row Inv-loop μ-loop → tie.At-loop Inv-loop μ-loop
-at-loop m = m .before .before .before .before .before .before .before .before .before
+at-loop m = turn m .before
 
 abbrev start : tie.After-mix-row Inv-loop μ-loop → tie.Start Inv-loop μ-loop
 start m = at-loop m .before
@@ -151,30 +163,6 @@ record Room (f l rows columns i : ℕ) : Type 0 where
 room : (r : tie.In-loop Inv-loop μ-loop) → Room (r .before .before .args .f) (r .before .before .args .l) (r .before .before .args .rows) (r .before .before .args .columns) (r .before .loop .i)
 room r = record { order = omega arith; taken = omega arith; rows-fit = omega arith; room = omega arith; columns-fit = omega arith }
 
--- the turn of a row that is mixed
-abbrev turn : tie.After-mix-row Inv-loop μ-loop → tie.In-loop Inv-loop μ-loop
-turn m = m .before .before .before .before .before .before .before .before
-
--- the four numbers that are read
-module _ (c : tie.After-vd Inv-loop μ-loop) where
-  abbrev here : tie.At-loop Inv-loop μ-loop
-  here = c .before .before .before .before .before
-
-  abbrev d : ℕ
-  d = here .loop .i - here .before .args .f
-
-  wn-fits : SFits w64 (getD (here .before .args .t3 .num) d (pos 0))
-  wn-fits = record { sfits = c .before .before .before .wn .given }
-
-  wd-fits : SFits w64 (getD (here .before .args .t3 .den) d (pos 0))
-  wd-fits = record { sfits = c .before .before .wd .given }
-
-  vn-fits : SFits w64 (getD (here .before .args .t3 .num) (d + 1) (pos 0))
-  vn-fits = record { sfits = c .before .vn .given }
-
-  vd-fits : SFits w64 (getD (here .before .args .t3 .den) (d + 1) (pos 0))
-  vd-fits = record { sfits = c .vd .given }
-
 module _ (m : tie.After-mix-row Inv-loop μ-loop) (t : Table) (j : ℕ) (qs : List ℚ) (h : Holds (start m .args .num .now) (start m .args .den .now) t)
     (shaped : Shaped t (start m .args .rows) (start m .args .columns)) (e : start m .args .t3 ≡ fractions qs) where
   st : State (start m .args .num .now) (start m .args .den .now) (at-loop m .loop .num) (at-loop m .loop .den) (start m .args .f) (at-loop m .loop .i) t j qs
@@ -187,23 +175,11 @@ module _ (m : tie.After-mix-row Inv-loop μ-loop) (t : Table) (j : ℕ) (qs : Li
   inside = let r = room (turn m) in omega arith
 
   -- the two factors that are read
-  w-is : value (record {
-    num = toZ w64 (ofZ w64 (getD (start m .args .t3 .num) (at-loop m .loop .i - start m .args .f) (pos 0)));
-    den = toZ w64 (ofZ w64 (getD (start m .args .t3 .den) (at-loop m .loop .i - start m .args .f) (pos 0)));
-  })
-      ≡ entry qs (at-loop m .loop .i - start m .args .f)
-  w-is =
-      simp (toZ-ofZ, wn-fits (m .before .before .before .before), wd-fits (m .before .before .before .before))
-      (ap value (fraction-at qs _ e (at-loop m .loop .i - start m .args .f)
-      (let r = room (turn m) in omega arith)) ∙ value-fraction _)
+  w-is : value (first (factors m) .fraction-at .result) ≡ entry qs (at-loop m .loop .i - start m .args .f)
+  w-is = ap value (first (factors m) .fraction-at .ensures qs e) ∙ value-fraction _
 
-  u-is : value (m .before .before .before .complement .result) ≡ int (pos 1) -ᵠ entry qs (suc (at-loop m .loop .i - start m .args .f))
-  u-is =
-      m .before .before .before .complement .ensures .0
-      ∙ ap (λ x. int (pos 1) -ᵠ x) (simp (toZ-ofZ, vn-fits (m .before .before .before .before), vd-fits (m .before .before .before .before))
-      (ap value (fraction-at qs _ e (at-loop m .loop .i - start m .args .f + 1)
-      (let r = room (turn m) in omega arith)) ∙ value-fraction _
-      ∙ ap (entry qs) (add-one (at-loop m .loop .i - start m .args .f))))
+  v-is : value (factors m .fraction-at2 .result) ≡ entry qs (suc (at-loop m .loop .i - start m .args .f))
+  v-is = ap value (factors m .fraction-at2 .ensures qs e) ∙ value-fraction _ ∙ ap (entry qs) (add-one (at-loop m .loop .i - start m .args .f))
 
   leaves : LeavesIf (with-answer (set (current h shaped order inside st) (at-loop m .loop .i))
       (made j qs t (start m .args .f) (at-loop m .loop .i - start m .args .f))) (m .mix-row .result) (at-loop m .loop .num) (at-loop m .loop .den)
@@ -212,8 +188,9 @@ module _ (m : tie.After-mix-row Inv-loop μ-loop) (t : Table) (j : ℕ) (qs : Li
       let cur = current h shaped order inside st in
       subst (λ (o : Outcome Row). LeavesIf (with-answer (set cur (at-loop m .loop .i)) o) (m .mix-row .result) (at-loop m .loop .num) (at-loop m .loop .den)
       (m .mix-row .last .0) (m .mix-row .last .1 .0))
-      (row-is h shaped order inside st _ _ w-is refl)
-      (m .mix-row .ensures cur j _ (holds h shaped order inside st) u-is (omega (arith, current-length h shaped order inside st, inside)) (current-wide h shaped order inside st))
+      (row-is h shaped order inside st _ _ w-is v-is)
+      (m .mix-row .ensures cur j _ (holds h shaped order inside st) (m .before .before .before .complement .ensures .0)
+      (omega (arith, current-length h shaped order inside st, inside)) (current-wide h shaped order inside st))
 
 loop-holds : tie.Need-loop-holds Inv-loop μ-loop
 loop-holds c = record {
@@ -232,21 +209,19 @@ loop-holds c = record {
 
 complement-requires : tie.Need-complement-requires Inv-loop μ-loop
 complement-requires c κs =
-    let u = here c .before .pre .1 in
-    simp (toZ-ofZ, vn-fits c, vd-fits c, room (c .before .before .before .before))
-    (record { of = _; is = fraction-at (u .of) _ (u .is) (d c + 1) (omega arith); fit = u .fit _; low = u .low _; high = u .high _ })
+    let u = turn-of (first c) .before .before .pre .1 in
+    record { of = _; is = c .fraction-at2 .ensures (u .of) (u .is); fit = u .fit _; low = u .low _; high = u .high _ }
 
 mix-row-requires : tie.Need-mix-row-requires Inv-loop μ-loop
 mix-row-requires c κs =
-    let x = c .before .before .before in
-    let r = x .before .before .before .before in
+    let x = first (c .before .before .before) in
+    let r = turn-of x in
     let s = r .before .before in
     let v = r .before .loop .inv in
     let u = s .pre .1 in
     let k = s .pre .0 .1 .1 in
-    let b = room r in
-    simp (toZ-ofZ, wn-fits x, wd-fits x) (
-      (subst FractionFits (sym (fraction-at (u .of) _ (u .is) (d x) (omega arith))) (fits-sized _ (u .fit _)), (c .before .before .complement .ensures .1, (omega arith, b .columns-fit))),
+    let b = room r in (
+      (subst FractionFits (sym (x .fraction-at .ensures (u .of) (u .is))) (fits-sized _ (u .fit _)), (c .before .before .complement .ensures .1, (omega arith, b .columns-fit))),
       (_, holds (k .holds) (k .shaped) (v .passed) (omega arith) (v .state (k .table) 0 (u .of) (k .holds) (k .shaped) (u .is))),
     )
 
@@ -277,8 +252,8 @@ returns-2 c t j qs h shaped e = finished (c .before .before .args .l) (omega ari
 
 pub mix-rows-spec : {M : Type 1} → statement M
 mix-rows-spec =
-    tie.close (tie.spec Inv-loop μ-loop loop-holds (λ c. omega arith) (λ c. omega arith) (λ c. omega arith) (λ c. omega arith)
-    (λ c. omega arith) (λ c. omega arith) (λ c. omega arith) (λ c. omega arith) (λ c. omega arith) (λ c. omega arith) (λ c. omega arith)
-    complement-requires mix-row-requires (λ c. let m = c .before .before .before in m .mix-row .kept .0 ∙ at-loop m .loop .inv .num-long)
+    tie.close (tie.spec Inv-loop μ-loop loop-holds (λ c. omega arith) (λ c κs. let b = room (c .before .before .before) in omega arith) (λ c. omega arith)
+    (λ c κs. let b = room (turn-of (c .before .before .before)) in omega arith) complement-requires mix-row-requires
+    (λ c. let m = c .before .before .before in m .mix-row .kept .0 ∙ at-loop m .loop .inv .num-long)
     (λ c. let m = c .before .before .before in m .mix-row .kept .1 .0 ∙ at-loop m .loop .inv .den-long) returns (λ c. omega arith)
     (λ c. omega arith) loop-again (λ c. c .before .loop .inv .num-long) (λ c. c .before .loop .inv .den-long) returns-2)

@@ -2,15 +2,15 @@
 use borrow.Author.Needs.{needs}
 use mathlib.Core.Path.{_≡_, sym, _∙_, ap}
 use mathlib.Core.List.{List}
-use Prim.Native.Nat.{ℕ, suc, _-_, _<_, _≤_}
+use Prim.Native.Nat.{ℕ, suc, _-_, _≤_}
 use native.Mathlib.Omega.{arith}
 use native.Mathlib.Numerals.{add-one}
 use lib.IntN.{pos}
-use lib.ListN.{length, getD}
+use lib.ListN.{length}
 use mir.Syntax.{w64}
-use mir.Val.{SFits, ofZ}
+use mir.Val.{ofZ}
 use Rattle.base_exact.specs.Rational.{ℚ, int}
-use Rattle.base_exact.proofs.Word.{toZ-ofZ, ofZ-inj}
+use Rattle.base_exact.proofs.Word.{ofZ-inj}
 use Rattle.base_exact.proofs.Rational.{zero-is, zero-num}
 use Rattle.base_exact.proofs.Order.{zero-test, nonzero-test}
 use Rattle.base_fraction.specs.Machine.{fraction, value, FractionFits}
@@ -22,7 +22,6 @@ use Rattle.base_fraction.proofs.Bounds.{num-fits}
 use Rattle.base_outcome.specs.Outcome.{answer}
 use Rattle.spec_spline.specs.Table.{entry}
 use Rattle.base_fraction.specs.Fractions.{fractions}
-use Rattle.base_fraction.proofs.Fractions.{fraction-at}
 use Rattle.build_counted.specs.Machine.{counted}
 use Rattle.base_fraction.specs.declared.arrays.Fractions.{Fractions}
 use Rattle.build_counted.proofs.Counted.{fits-answered, large-refused}
@@ -51,57 +50,50 @@ loop-holds c = record {
   state = λ j qs ps e h. sum-none j qs ps ∙ ap answer (sym (value-int (pos 0)));
 }
 
--- the four coefficients that are read
-module _ (c : tie.After-jd Inv-loop μ-loop) where
+-- the turn in which the coefficient of row i is read
+abbrev turn-of : tie.After-fraction-at Inv-loop μ-loop → tie.In-loop Inv-loop μ-loop
+turn-of own = own .before .before .before .before
+
+-- the coefficient and the jump of row i are read
+module _ (c : tie.After-fraction-at2 Inv-loop μ-loop) where
+  abbrev own : tie.After-fraction-at Inv-loop μ-loop
+  own = c .before .before .before .before
+
   abbrev at : tie.At-loop Inv-loop μ-loop
-  at = c .before .before .before .before .before
+  at = turn-of own .before
 
-  abbrev i : ℕ
-  i = at .loop .i
+  coefficient-is : (ps : List ℚ) → at .before .args .t2 ≡ fractions ps → own .fraction-at .result ≡ fraction (entry ps (at .loop .i))
+  coefficient-is ps h = own .fraction-at .ensures ps h
 
-  low : i < 72
-  low = omega (arith, c .before .before .before .before .loop-test .taken, at .before .pre .0)
-
-  cn-fits : SFits w64 (getD (at .before .args .t2 .num) i (pos 0))
-  cn-fits = record { sfits = c .before .before .before .cn .given }
-
-  cd-fits : SFits w64 (getD (at .before .args .t2 .den) i (pos 0))
-  cd-fits = record { sfits = c .before .before .cd .given }
-
-  jn-fits : SFits w64 (getD (at .before .args .t1 .num) i (pos 0))
-  jn-fits = record { sfits = c .before .jn .given }
-
-  jd-fits : SFits w64 (getD (at .before .args .t1 .den) i (pos 0))
-  jd-fits = record { sfits = c .jd .given }
+  jump-is : (qs : List ℚ) → at .before .args .t1 ≡ fractions qs → c .fraction-at2 .result ≡ fraction (entry qs (at .loop .i))
+  jump-is qs e = c .fraction-at2 .ensures qs e
 
 add-term-requires : tie.Need-add-term-requires Inv-loop μ-loop
 add-term-requires c κs =
     let l = at c in
     let p = l .before .pre .1 in
-    simp (toZ-ofZ, cn-fits c, cd-fits c, jn-fits c, jd-fits c) (record {
+    record {
       sum-fits = l .loop .inv .fitted;
-      coefficient-fits = rw (fraction-at (p .1 .of) _ (p .1 .is) (i c) (low c)) (fits-sized _ (p .1 .fit (i c)));
-      jump-fits = rw (fraction-at (p .0 .of) _ (p .0 .is) (i c) (low c)) (fits-sized _ (p .0 .fit (i c)));
-    })
+      coefficient-fits = rw (coefficient-is c (p .1 .of) (p .1 .is)) (fits-sized _ (p .1 .fit (l .loop .i)));
+      jump-fits = rw (jump-is c (p .0 .of) (p .0 .is)) (fits-sized _ (p .0 .fit (l .loop .i)));
+    }
 
 -- what the turn answers, in the definition's terms
 module _ (a : tie.After-add-term Inv-loop μ-loop) (j : ℕ) (qs ps : List ℚ) where
   abbrev at-loop : tie.At-loop Inv-loop μ-loop
   at-loop = at (a .before)
 
-  added-is : at-loop .before .args .t1 ≡ fractions qs → at-loop .before .args .t2 ≡ fractions ps → a .add-term .result ≡ counted (added j qs ps (at-loop .loop .i) (value (at-loop .loop .sum)))
+  added-is : at-loop .before .args .t1 ≡ fractions qs → at-loop .before .args .t2 ≡ fractions ps
+      → a .add-term .result ≡ counted (added j qs ps (at-loop .loop .i) (value (at-loop .loop .sum)))
   added-is e h =
-      let c = a .before in
-      let x = cn-fits c in
-      let y = cd-fits c in
-      let u = jn-fits c in
-      let v = jd-fits c in
-      a .add-term .ensures .0 j (value (at-loop .loop .sum)) (entry ps (i c)) (entry qs (i c)) (at-loop .loop .inv .lowest)
-      (simp toZ-ofZ (fraction-at ps _ h (i c) (low c))) (simp toZ-ofZ (fraction-at qs _ e (i c) (low c)))
+      let l = at-loop .loop in
+      a .add-term .ensures .0 j (value (l .sum)) (entry ps (l .i)) (entry qs (l .i)) (l .inv .lowest)
+      (coefficient-is (a .before) ps h) (jump-is (a .before) qs e)
 
 returns : tie.Need-returns Inv-loop μ-loop
 returns c j qs ps e h size =
-    let a = c .before .before in let t = a .before .before .before .before .before .loop-test in
+    let a = c .before .before in
+    let t = turn-of (own (a .before)) .loop-test in
     let l = at-loop a j qs ps .loop in
     let r = large-refused (added j qs ps (l .i) (value (l .sum))) (sym (added-is a j qs ps e h) ∙ c .enum-told .given .1) in
     balance-large j qs ps (sum-stays j qs ps (suc (l .i)) (length qs) (omega (arith, size, t .taken))
@@ -146,6 +138,6 @@ returns-3 c j qs ps e h size =
 
 pub balanced-spec : {M : Type 1} → statement M
 balanced-spec =
-    tie.close (tie.spec Inv-loop μ-loop loop-holds (λ c. omega arith) (λ c. omega arith) (λ c. omega arith) (λ c. omega arith)
-    (λ c. omega arith) (λ c. omega arith) (λ c. omega arith) (λ c. omega arith) add-term-requires (λ c. search needs) (λ c. search needs)
-    returns (λ c. omega arith) (λ c. omega arith) loop-again returns-2 returns-3)
+    tie.close (tie.spec Inv-loop μ-loop loop-holds (λ c κs. let t = c .before .before .before in omega (arith, t .loop-test .taken, t .before .before .pre .0))
+    (λ c κs. let t = turn-of (c .before .before .before) in omega (arith, t .loop-test .taken, t .before .before .pre .0)) add-term-requires (λ c. search needs) (λ c. search needs) returns
+    (λ c. omega arith) (λ c. omega arith) loop-again returns-2 returns-3)

@@ -5,11 +5,8 @@ use mathlib.Core.List.{List}
 use Prim.Native.Nat.{ℕ, suc, _+_, _-_, _<_}
 use native.Mathlib.Omega.{arith}
 use lib.IntN.{pos}
-use lib.ListN.{getD, drop}
+use lib.ListN.{drop}
 use lib.Seq.{getD-drop}
-use mir.Syntax.{w64}
-use mir.Val.{SFits}
-use mir.ValLaws.{toZ-ofZ}
 use Rattle.base_exact.specs.Rational.{ℚ, int}
 use Rattle.base_exact.proofs.Rational.{zero-is}
 use Rattle.base_fraction.specs.Machine.{fraction}
@@ -18,7 +15,7 @@ use Rattle.base_fraction.specs.declared.Counted.the-variants.{Fits}
 use Rattle.base_fraction.proofs.Answer.{fits-sized}
 use Rattle.base_outcome.specs.Outcome.{answer}
 use Rattle.spec_spline.specs.Table.{entry}
-use Rattle.base_fraction.proofs.Fractions.{fraction-at}
+use Rattle.base_fraction.specs.Fractions.{fractions}
 use Rattle.build_counted.specs.Machine.{counted}
 use Rattle.spec_calls.specs.Recovery.{undoneCoefficient, undoneRow}
 use Rattle.recover_rows.proofs.undo_row.Statement.{statement}
@@ -38,78 +35,69 @@ module _ (j : ℕ) (us ps : List ℚ) (f i : ℕ) where
       next : i - f ≡ suc (i - f - 1)
       next = omega (arith, h)
 
--- the coefficients that are read: of the row itself
-module _ (c : tie.After-cd) where
-  abbrev start : tie.Start
-  start = c .before .before
-
-  cn-fits : SFits w64 (getD (start .args .t1 .num) (start .args .i) (pos 0))
-  cn-fits = record { sfits = c .before .cn .given }
-
-  cd-fits : SFits w64 (getD (start .args .t1 .den) (start .args .i) (pos 0))
-  cd-fits = record { sfits = c .cd .given }
+-- where the function begins, before the row's own coefficient is read
+abbrev begun : tie.After-fraction-at → tie.Start
+begun a = a .before .before .before .before
 
 returns : tie.Need-returns
 unfolding counted
 returns c j us ps e h =
-    let s = start (c .before) in
-    ap Fits (simp (toZ-ofZ, cn-fits (c .before), cd-fits (c .before))
-    (fraction-at ps _ h (s .args .i) (s .pre .within))) ∙ sym (ap counted (first-row j us ps (s .args .f) (s .args .i) (c .if1 .taken)))
+    let a = c .before in
+    let s = begun a .args in
+    ap Fits (a .fraction-at .ensures ps h) ∙ sym (ap counted (first-row j us ps (s .f) (s .i) (c .if1 .taken)))
 
--- of its factor and of the row before
-module _ (c : tie.After-bd) where
-  abbrev own : tie.After-cd
-  own = c .before .before .before .before .before
+-- the row's coefficient, its factor and the coefficient of the row before are read
+module _ (c : tie.After-fraction-at3) where
+  abbrev factor-read : tie.After-fraction-at2
+  factor-read = c .before .before .before .before
 
-  abbrev d : ℕ
-  d = start own .args .i - start own .args .f
+  abbrev own : tie.After-fraction-at
+  own = factor-read .before .before .before .before .before
 
-  later : start own .args .f < start own .args .i
-  later = omega (arith, start own .pre .order, c .before .before .before .before .if1 .left)
+  abbrev start : tie.Start
+  start = begun own
 
-  wn-fits : SFits w64 (getD (start own .args .t2 .num) d (pos 0))
-  wn-fits = record { sfits = c .before .before .before .wn .given }
+  abbrev f : ℕ
+  f = start .args .f
 
-  wd-fits : SFits w64 (getD (start own .args .t2 .den) d (pos 0))
-  wd-fits = record { sfits = c .before .before .wd .given }
+  abbrev i : ℕ
+  i = start .args .i
 
-  bn-fits : SFits w64 (getD (start own .args .t1 .num) (start own .args .i - 1) (pos 0))
-  bn-fits = record { sfits = c .before .bn .given }
+  later : f < i
+  later = omega (arith, start .pre .order, factor-read .before .before .before .before .if1 .left)
 
-  bd-fits : SFits w64 (getD (start own .args .t1 .den) (start own .args .i - 1) (pos 0))
-  bd-fits = record { sfits = c .bd .given }
+  coefficient-is : (ps : List ℚ) → start .args .t1 ≡ fractions ps → own .fraction-at .result ≡ fraction (entry ps i)
+  coefficient-is ps h = own .fraction-at .ensures ps h
+
+  factor-is : (us : List ℚ) → start .args .t2 ≡ fractions us → factor-read .fraction-at2 .result ≡ fraction (entry us (i - f))
+  factor-is us e = factor-read .fraction-at2 .ensures us e
+
+  before-is : (ps : List ℚ) → start .args .t1 ≡ fractions ps → c .fraction-at3 .result ≡ fraction (entry ps (i - 1))
+  before-is ps h = c .fraction-at3 .ensures ps h
 
 undo-coefficient-requires : tie.Need-undo-coefficient-requires
 unfolding fraction
 undo-coefficient-requires c κs =
-    let s = start (own c) in
-    let n = s .pre .coefficients in
-    let u = s .pre .factors in
-    let e = fraction-at (u .of) _ (u .is) (d c) (omega (arith, s .pre .within)) in
-    simp (toZ-ofZ, cn-fits (own c), cd-fits (own c), wn-fits c, wd-fits c, bn-fits c, bd-fits c) (record {
-      factor = record { of = entry (u .of) (d c); is = e; fit = u .fit (d c); low = u .low (d c); high = u .high (d c) };
-      factor-nonzero = λ z. s .pre .nonzero (u .of) (u .is) (d c) (omega arith) (zero-is (entry (u .of) (d c)) (sym (ap (λ (x : Fraction). x .num) e) ∙ z));
-      coefficient-fits = rw (fraction-at (n .of) _ (n .is) (s .args .i) (s .pre .within)) (fits-sized _ (n .fit (s .args .i)));
-      before-fits = rw (fraction-at (n .of) _ (n .is) (s .args .i - 1) (omega (arith, s .pre .within))) (fits-sized _ (n .fit (s .args .i - 1)));
-    })
+    let p = start c .pre in
+    let n = p .coefficients in
+    let u = p .factors in
+    let d = i c - f c in
+    let e = factor-is c (u .of) (u .is) in
+    record {
+      factor = record { of = entry (u .of) d; is = e; fit = u .fit d; low = u .low d; high = u .high d };
+      factor-nonzero = λ z. p .nonzero (u .of) (u .is) d (omega arith) (zero-is (entry (u .of) d) (sym (ap (λ (x : Fraction). x .num) e) ∙ z));
+      coefficient-fits = rw (coefficient-is c (n .of) (n .is)) (fits-sized _ (n .fit (i c)));
+      before-fits = rw (before-is c (n .of) (n .is)) (fits-sized _ (n .fit (i c - 1)));
+    }
 
 returns-2 : tie.Need-returns-2
 returns-2 c j us ps e h =
     let b = c .before in
-    let s = start (own b) in
-    let a1 = cn-fits (own b) in
-    let a2 = cd-fits (own b) in
-    let a3 = wn-fits b in
-    let a4 = wd-fits b in
-    let a5 = bn-fits b in
-    let a6 = bd-fits b in
-    c .undo-coefficient .ensures j (entry us (d b)) (entry ps (s .args .i)) (entry ps (s .args .i - 1))
-    (simp toZ-ofZ (fraction-at us _ e (d b) (omega (arith, s .pre .within)))) (simp toZ-ofZ (fraction-at ps _ h (s .args .i) (s .pre .within)))
-    (simp toZ-ofZ (fraction-at ps _ h (s .args .i - 1) (omega (arith, s .pre .within))))
-    ∙ sym (ap counted (later-row j us ps (s .args .f) (s .args .i) (later b)))
+    c .undo-coefficient .ensures j (entry us (i b - f b)) (entry ps (i b)) (entry ps (i b - 1))
+    (factor-is b us e) (coefficient-is b ps h) (before-is b ps h)
+    ∙ sym (ap counted (later-row j us ps (f b) (i b) (later b)))
 
 pub undo-row-spec : {M : Type 1} → statement M
 undo-row-spec =
-    tie.close (tie.spec (λ c. search needs) (λ c. search needs) (λ c. search needs) (λ c. search needs) returns (λ c. omega arith)
-    (λ c. omega arith) (λ c. omega arith) (λ c. omega arith) (λ c. omega arith) (λ c. omega arith) (λ c. omega arith) (λ c. omega arith)
-    (λ c. omega arith) (λ c. omega arith) (λ c. omega arith) (λ c. omega arith) undo-coefficient-requires returns-2)
+    tie.close (tie.spec (λ c κs. search needs) returns (λ c. search needs) (λ c κs. search needs) (λ c. search needs)
+    (λ c κs. search needs) undo-coefficient-requires returns-2)

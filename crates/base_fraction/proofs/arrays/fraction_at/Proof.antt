@@ -12,9 +12,9 @@ use Rattle.base_fraction.proofs.arrays.fraction_at.Tie as tie
 returns : tie.Need-returns
 returns c of e =
     let s = c .before .before in
-    let n : SFits w64 (getD (s .args .t1 .num) (s .args .i) (pos 0)) = record { sfits = c .before .n .given } in
-    let d : SFits w64 (getD (s .args .t1 .den) (s .args .i) (pos 0)) = record { sfits = c .d .given } in
-    simp toZ-ofZ (fraction-at of (s .args .t1) e (s .args .i) (s .pre))
+    let n : SFits w64 (getD (s .args .num .now) (s .args .i) (pos 0)) = record { sfits = c .before .n .given } in
+    let d : SFits w64 (getD (s .args .den .now) (s .args .i) (pos 0)) = record { sfits = c .d .given } in
+    simp toZ-ofZ (fraction-at of _ e (s .args .i) (s .pre))
 
 pub fraction-at-spec : {M : Type 1} → statement M
 fraction-at-spec = tie.close (tie.spec (λ c. search needs) (λ c. search needs) (λ c. search needs) (λ c. search needs) returns)

@@ -30,10 +30,10 @@ record Inv (nums₀ dens₀ : List ℤ) (from : ℕ) (cs : Fractions) (n : ℕ) 
       → CoefficientsListed (from + i) (done ++ ps) num den nums dens
 
 abbrev Inv-loop : tie.InvT-loop
-Inv-loop nums₀ dens₀ from cs n i₀ nums dens i = Inv nums₀ dens₀ from cs n nums dens i
+Inv-loop nums₀ dens₀ from n cs i₀ nums dens i = Inv nums₀ dens₀ from cs n nums dens i
 
 abbrev μ-loop : tie.MeasureT-loop
-μ-loop nums₀ dens₀ from cs n i₀ nums dens i = n - i
+μ-loop nums₀ dens₀ from n cs i₀ nums dens i = n - i
 
 -- the coefficients before are those of the longer list
 first-is : (part : ℚ → ℤ) (from : ℕ) (done ps : List ℚ) (before : List ℤ) → length done ≡ from → listed part from done before ≡ listed part (from + 0) (done ++ ps) before
@@ -61,13 +61,17 @@ den-part : (q : ℚ) → fraction q .den ≡ denominatorOf q
 unfolding fraction
 den-part q = refl
 
+-- the turn in which a fraction is read
+abbrev turn : tie.After-fraction-at Inv-loop μ-loop → tie.In-loop Inv-loop μ-loop
+turn q = q .before .before .before .before
+
 -- the turn's cell is inside
-inside : (c : tie.After-struct-told2 Inv-loop μ-loop) → let a = c .before .before .before .before in let at = a .before .args .from + a .loop .i in
+inside : (c : tie.After-struct-told2 Inv-loop μ-loop) → let a = turn (c .before .before) .before in let at = a .before .args .from + a .loop .i in
     (at < length (a .loop .coef-num)) × (at < length (a .loop .coef-den))
 inside c =
-    let a = c .before .before .before .before in
+    let a = turn (c .before .before) .before in
     let p = a .before .pre in
-    let t = c .before .before .before .loop-test .taken in
+    let t = turn (c .before .before) .loop-test .taken in
     (omega (arith, t, p .num-room, a .loop .inv .num-long), omega (arith, t, p .den-room, a .loop .inv .den-long))
 
 loop-holds : tie.Need-loop-holds Inv-loop μ-loop
@@ -81,7 +85,7 @@ loop-holds c = record {
 loop-again : tie.Need-loop-again Inv-loop μ-loop
 loop-again c =
     let q = c .before .before in
-    let a = q .before .before in
+    let a = turn q .before in
     let g = a .before .args in
     let v = a .loop .inv in
     let x : SFits w64 (q .fraction-at .result .num) = record { sfits = c .struct-told2 .given .0 .1 } in
