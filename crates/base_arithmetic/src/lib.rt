@@ -1,5 +1,7 @@
 // Arithmetic of machine fractions: product, sum and quotient, counted, and the two tests of a factor.
 // Operands have parts below 2^31 and need not be in lowest terms; every answer is in lowest terms.
+#![tactic(auto)]
+
 ghost use Rattle.std.specs.Prelude.{◌≡◌, pos, ◌<ℤ◌};
 ghost use Rattle.base_exact.specs.Rational.{int, ◌+ᵠ◌, ◌*ᵠ◌, ◌/ᵠ◌};
 ghost use Rattle.base_exact.specs.Order.{ltᵠ};

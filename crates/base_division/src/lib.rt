@@ -1,4 +1,6 @@
 // Whole numbers of 64 bits: the greatest common divisor, the size, and division rounded down and to the nearest.
+#![tactic(auto)]
+
 ghost use Rattle.std.specs.Prelude.{◌≡◌, ◌^◌, ◌<◌, pos, nat_abs, ◌<ℤ◌};
 ghost use Rattle.base_exact.specs.Gcd;
 ghost use Rattle.base_exact.specs.Floor.{floor_div, nearest};

@@ -9,7 +9,7 @@ use crate::Fraction;
 // How many fractions an array holds: `row_cells` of specs/Fractions.
 pub const ROW_CELLS: usize = 72;
 
-#[derive(Drop)]
+#[derive(Clone, Copy)]
 pub struct Fractions {
     pub num: [i64; ROW_CELLS],
     pub den: [i64; ROW_CELLS],

@@ -1,19 +1,21 @@
 // Machine fractions: a numerator and a positive denominator of 64 bits each, by value. A fraction is brought to lowest terms and its
 // size is tested here; base_arithmetic calculates with fractions.
+#![tactic(auto)]
+
 ghost use Rattle.std.specs.Prelude.{◌≡◌, pos, ◌<ℤ◌};
 ghost use Rattle.base_fraction.specs.Size.{count};
 ghost use Rattle.base_fraction.specs.Machine.{fraction, ratio, answer};
 
 pub mod arrays;
 
-#[derive(Drop)]
+#[derive(Clone, Copy)]
 pub struct Fraction {
     pub num: i64,
     pub den: i64,
 }
 
 // What an operation answers: the fraction in lowest terms, if its parts are below the limit.
-#[derive(Drop)]
+#[derive(Clone, Copy)]
 pub enum Counted {
     Fits(Fraction),
     TooLarge,

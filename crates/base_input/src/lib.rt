@@ -1,10 +1,12 @@
 // Standard input read to its end. A read that fails is told from the end of the input, which `io::read_full` takes it for: a text
 // that is not all there must not be taken for a shorter one.
+#![tactic(auto)]
+
 ghost use Rattle.std.specs.Prelude.{◌+◌, ◌≤◌, ◌≡◌, length};
 ghost use Rattle.io.specs.Counts.{IsPrefixLen};
 
 // How many bytes came, and whether it was a failed read that ended them.
-#[derive(Drop)]
+#[derive(Clone, Copy)]
 pub struct Input {
     pub count: usize,
     pub failed: bool,

@@ -1,5 +1,7 @@
 // What the calls end with: an answer, or a refusal with code and place; the cap on places; and what a search for an index finds.
 // The definitions are apart from those of the curves, since Tucson files end in the same way.
+#![tactic(auto)]
+
 pub mod codes;
 pub mod limits;
 
@@ -10,21 +12,21 @@ ghost use Rattle.base_outcome.specs.Outcome.{capped};
 pub const LARGEST_PLACE: u32 = 4294967295;
 
 // A check that passed, or its refusal.
-#[derive(Drop)]
+#[derive(Clone, Copy)]
 pub enum Legality {
     Legal,
     Refused(u8, u32),
 }
 
 // What a call answers by a count of rows, values, indices, series or bytes, or its refusal.
-#[derive(Drop)]
+#[derive(Clone, Copy)]
 pub enum Answer {
     Count(usize),
     Refused(u8, u32),
 }
 
 // The first entry that breaks a rule, if any does.
-#[derive(Drop)]
+#[derive(Clone, Copy)]
 pub enum Found {
     At(usize),
     Nothing,

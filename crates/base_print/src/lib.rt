@@ -1,6 +1,8 @@
 // Printing into a lent buffer: bytes, digits and the line of a refusal. Each function writes its text from an index on, as far as the
 // buffer reaches, and answers the index after it. The limits on the index keep every sum from overflowing. Sheets and Tucson files
 // print with it.
+#![tactic(auto)]
+
 ghost use Rattle.std.specs.Prelude.{◌≡◌, [], ◌∷◌, ◌^◌, ◌<◌, ◌≤◌, length};
 ghost use Rattle.base_text.specs.Numeral.{digits, decimal};
 ghost use Rattle.base_print.specs.Buffer.{Puts, Prints};

@@ -7,7 +7,7 @@ ghost use Rattle.base_text.specs.Numeral;
 ghost use Rattle.base_text.specs.Machine.{field};
 
 // What stands between two commas: a whole number, or no numeral.
-#[derive(Drop)]
+#[derive(Clone, Copy)]
 pub enum Field {
     Numeral(i32),
     Bad,

@@ -1,4 +1,6 @@
 // The weights of a multi-degree spline space: exact fractions in two lent buffers, by the specification's steps.
+#![tactic(auto)]
+
 ghost use Rattle.std.specs.Prelude.{◌≡◌};
 ghost use Rattle.spec_spline.specs.Build.{build_end};
 ghost use Rattle.build_space.specs.Machine.{space};

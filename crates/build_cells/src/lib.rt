@@ -1,4 +1,6 @@
 // The two lent buffers: row i, column j of the table is cell 72 i + j of the numerators and of the denominators.
+#![tactic(auto)]
+
 ghost use Rattle.std.specs.Prelude.{◌≡◌, ◌<◌, ◌≤◌, pos, length, get_or};
 ghost use Rattle.build_cells.specs.Region.{filled};
 

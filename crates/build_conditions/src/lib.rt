@@ -1,4 +1,6 @@
 // The column of conditions of a join and an order, as its few non-zero entries.
+#![tactic(auto)]
+
 ghost use Rattle.std.specs.Prelude.{◌≡◌, ℕ, ◌+◌, ◌*◌, ◌<◌};
 ghost use Rattle.spec_spline.specs.Space.{Space};
 ghost use Rattle.spec_spline.specs.Conditions;
@@ -7,21 +9,21 @@ ghost use Rattle.build_conditions.specs.Sides.{JoinIs, JoinFits};
 ghost use Rattle.build_conditions.specs.Terms.{scale_of, entries_of, ScaledOf, ConditionAsks, column_of};
 
 // One side of a join: the degree, length and first column of its segment.
-#[derive(Drop)]
+#[derive(Clone, Copy)]
 pub struct Side {
     pub degree: usize,
     pub length: i64,
     pub column: usize,
 }
 
-#[derive(Drop)]
+#[derive(Clone, Copy)]
 pub struct Join {
     pub left: Side,
     pub right: Side,
 }
 
 // The scales on the two sides of a join before the binomials, without common divisor.
-#[derive(Drop)]
+#[derive(Clone, Copy)]
 pub struct Scaled {
     pub left: i64,
     pub right: i64,

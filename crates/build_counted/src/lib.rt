@@ -1,4 +1,6 @@
 // Counted fractions of a step: a sum with one more product.
+#![tactic(auto)]
+
 ghost use Rattle.std.specs.Prelude.{◌≡◌, ℕ};
 ghost use Rattle.base_exact.specs.Rational.{int, ◌+ᵠ◌, ◌*ᵠ◌};
 ghost use Rattle.base_fraction.specs.Machine.{value};

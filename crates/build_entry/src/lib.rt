@@ -1,4 +1,6 @@
 // An entry of a new row: two entries times their factors, and the complement of a factor.
+#![tactic(auto)]
+
 ghost use Rattle.std.specs.Prelude.{◌≡◌, ℕ, pos};
 ghost use Rattle.base_exact.specs.Rational.{ℚ, int, ◌-ᵠ◌};
 ghost use Rattle.base_fraction.specs.Machine.{FractionFits, value};

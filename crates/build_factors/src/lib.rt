@@ -1,4 +1,6 @@
 // The factors of a step: 1 at the first row that the jumps span, 0 at the last, and w = S / jump at the rows between.
+#![tactic(auto)]
+
 ghost use Rattle.std.specs.Prelude.{◌≡◌, List, [], ℕ, ◌<◌, pos, ◌<ℤ◌};
 ghost use Rattle.base_exact.specs.Rational.{ℚ, ◌+ᵠ◌};
 ghost use Rattle.base_fraction.specs.Machine.{value};
@@ -12,7 +14,7 @@ use base_fraction::arrays::Fractions;
 use base_fraction::{Counted, Fraction, arrays};
 
 // Why a step was not done, if it was not: code 8 or code 9.
-#[derive(Drop)]
+#[derive(Clone, Copy)]
 pub enum StepRefusal {
     None,
     TooLarge,
@@ -20,7 +22,7 @@ pub enum StepRefusal {
 }
 
 // The rows f to l and their factors, from index 0 on; after a refusal only the refusal counts.
-#[derive(Drop)]
+#[derive(Clone, Copy)]
 pub struct RowFactors {
     pub refusal: StepRefusal,
     pub f: usize,
@@ -40,7 +42,7 @@ pub fn no_factors(refusal: StepRefusal) -> RowFactors
 }
 
 // A factor w = S / jump with its partial sum S.
-#[derive(Drop)]
+#[derive(Clone, Copy)]
 pub struct NextFactor {
     pub refusal: StepRefusal,
     pub sum: Fraction,

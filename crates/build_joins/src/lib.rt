@@ -1,4 +1,6 @@
 // The joins of a part from the left, and the build of a part: its steps in buffers that hold its first segment's rows.
+#![tactic(auto)]
+
 ghost use Rattle.std.specs.Prelude.{[], ℕ, ◌+◌};
 ghost use Rattle.spec_spline.specs.Space.{Space, row_count};
 ghost use Rattle.spec_spline.specs.Table.{Table};

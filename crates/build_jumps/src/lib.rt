@@ -1,4 +1,6 @@
 // The jumps of a step: one for each row.
+#![tactic(auto)]
+
 ghost use Rattle.std.specs.Prelude.{◌≡◌, ℕ, ◌≤◌, length};
 ghost use Rattle.spec_spline.specs.Space.{Space};
 ghost use Rattle.spec_spline.specs.Conditions;
@@ -43,7 +45,7 @@ fn jump(num: &[i64], den: &[i64], at: usize, join: Join, k: usize, entries: [i64
 }
 
 // The jumps, if no counted fraction was too large.
-#[derive(Drop)]
+#[derive(Clone, Copy)]
 pub struct RowJumps {
     pub fit: bool,
     pub of: Fractions,

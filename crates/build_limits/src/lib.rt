@@ -1,4 +1,6 @@
 // The refusals 2 to 5 and 15 of the three lists, in their order.
+#![tactic(auto)]
+
 ghost use Rattle.std.specs.Prelude.{◌≡◌, ◌+◌, length};
 ghost use Rattle.base_outcome.specs.Machine.{legality};
 ghost use Rattle.spec_spline.specs.Space.{lengths_fit, checked};

@@ -1,4 +1,6 @@
 // The new rows of a step, made in place one after the other.
+#![tactic(auto)]
+
 ghost use Rattle.std.specs.Prelude.{◌≡◌, ℕ, suc, ◌+◌, ◌<◌, ◌≤◌, pos, length, set, take, drop, List, ◌++◌};
 ghost use Rattle.base_exact.specs.Rational.{ℚ, int, ◌-ᵠ◌};
 ghost use Rattle.base_fraction.specs.Machine.{FractionFits, value};

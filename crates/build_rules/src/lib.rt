@@ -1,4 +1,6 @@
 // The rules that the entries of the three lists keep, and the first entry that breaks one: the refusals 3 to 5 and 15, unnumbered.
+#![tactic(auto)]
+
 ghost use Rattle.std.specs.Prelude.{◌≡◌, [], ◌+◌, ◌<◌, ◌≤◌, length};
 ghost use Rattle.base_outcome.specs.Search.{first};
 ghost use Rattle.base_outcome.specs.Machine.{found};
@@ -19,7 +21,7 @@ const DEGREE_LIMIT: i32 = 5;
 const ORDER_LIMIT: i32 = 2;
 
 // What is asked of a breakpoint, of the span of a part, of a degree, of an order and of the number of segments in a part.
-#[derive(Drop)]
+#[derive(Clone, Copy)]
 pub enum Rule {
     Breakpoint,
     Span,

@@ -1,4 +1,6 @@
 // The numbers that scale a condition: falling factorials, powers of lengths, and binomials with their signs.
+#![tactic(auto)]
+
 ghost use Rattle.std.specs.Prelude.{◌≡◌, ◌-◌, ◌^◌, ◌≤◌, pos, nat_abs, ◌*ℤ◌};
 ghost use Rattle.spec_spline.specs.Space.{degree_limit};
 ghost use Rattle.spec_spline.specs.Conditions;

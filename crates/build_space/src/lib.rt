@@ -1,4 +1,6 @@
 // The three lists of a space: the parts of a beam, and the lengths, columns and conditions of legal lists.
+#![tactic(auto)]
+
 ghost use Rattle.std.specs.Prelude.{◌≡◌, [], ◌+◌, ◌<◌, ◌≤◌, pos, length};
 ghost use Rattle.spec_spline.specs.Space.{segment_limit, is_discontinuity, starts_part, part_end, degree, width, condition_count, first_column};
 ghost use Rattle.spec_spline.specs.Space.{conditions_before, row_count};

@@ -1,4 +1,6 @@
 // The rows that the jumps of a step span: from the first to the last jump other than zero, if there is no zero between them.
+#![tactic(auto)]
+
 ghost use Rattle.std.specs.Prelude.{◌≡◌, List, ℕ, ◌<◌, ◌≤◌, length};
 ghost use Rattle.base_exact.specs.Rational.{ℚ};
 ghost use Rattle.base_outcome.specs.Search;
@@ -13,7 +15,7 @@ use base_fraction::arrays::Fractions;
 use base_outcome::Found;
 
 // The first and last row with a jump other than zero, if there is no zero between them.
-#[derive(Drop)]
+#[derive(Clone, Copy)]
 pub enum JumpSpan {
     Rows(usize, usize),
     Nothing,

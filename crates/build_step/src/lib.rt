@@ -1,4 +1,6 @@
 // A step of the build, and the steps of a join: one for each order from 0 up to its own.
+#![tactic(auto)]
+
 ghost use Rattle.std.specs.Prelude.{◌≡◌, List, ℕ, length};
 ghost use Rattle.base_exact.specs.Rational.{ℚ};
 ghost use Rattle.spec_spline.specs.Space.{Space};

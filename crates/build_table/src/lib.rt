@@ -1,4 +1,6 @@
 // The table in the two lent buffers: the identity, whole and as rows that come after those of a table, and a row left out.
+#![tactic(auto)]
+
 ghost use Rattle.std.specs.Prelude.{◌≡◌, ◌++◌, ℕ, ◌+◌, ◌*◌, ◌<◌, ◌≤◌, suc, pos, length, take, drop};
 ghost use Rattle.spec_spline.specs.Table;
 ghost use Rattle.build_cells.specs.Held.{ClearFrom, Holds};

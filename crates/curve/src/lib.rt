@@ -1,5 +1,7 @@
 // The curves of earlywood and latewood over one multi-degree spline space at given positions: the weights and the ordinates of all
 // columns, and then two de Casteljau triangles for each position.
+#![tactic(auto)]
+
 ghost use Rattle.std.specs.Prelude.{◌≡◌, []};
 ghost use Rattle.build_space.specs.Machine.{space};
 ghost use Rattle.curve_places.specs.Offsets.{columns_of};

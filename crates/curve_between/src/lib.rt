@@ -1,1 +1,2 @@
 // Pieces between the positions, stated in specs/ and proved in proofs/. This crate has no code.
+#![tactic(auto)]

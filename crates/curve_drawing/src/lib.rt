@@ -1,11 +1,13 @@
 // The ordinates and breakpoints of a piece as 64-bit floats, exactly: what the screen is drawn from.
+#![tactic(auto)]
+
 ghost use Rattle.std.specs.Prelude.{◌+◌, ◌<◌, pos, length, get_or};
 ghost use Rattle.base_exact.specs.Tabulate.{tab};
 ghost use Rattle.spec_spline.specs.Reading.{fineness};
 ghost use Rattle.curve_drawing.specs.Floats.{Is, Each, floats, CurveAsks};
 
 // A line, a quadratic or a cubic, with its ordinates from the left, in thousandths of a millimetre.
-#[derive(Drop)]
+#[derive(Clone, Copy)]
 pub enum Curve {
     Line(f64, f64),
     Quadratic(f64, f64, f64),

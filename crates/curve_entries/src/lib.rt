@@ -1,4 +1,6 @@
 // The refusals 6 and 7 of a legal space: the coefficients and the positions, each by itself.
+#![tactic(auto)]
+
 ghost use Rattle.std.specs.Prelude.{◌≡◌, [], pos, length, get_or};
 ghost use Rattle.build_space.specs.Machine.{space};
 ghost use Rattle.base_outcome.specs.Machine.{found, legality};

@@ -1,4 +1,6 @@
 // The refusals 2 to 7 and 15 of a curve call, in the order of their numbers but for 15, which follows 5.
+#![tactic(auto)]
+
 ghost use Rattle.std.specs.Prelude.{◌≡◌};
 ghost use Rattle.build_space.specs.Machine.{space};
 ghost use Rattle.base_outcome.specs.Machine.{legality};

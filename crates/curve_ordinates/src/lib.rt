@@ -1,5 +1,7 @@
 // The Bernstein ordinates of the curve of one wood part, in 256ths: for each column the sum of the rounded terms, within the
 // limits of the part's coefficients with weight on it.
+#![tactic(auto)]
+
 ghost use Rattle.std.specs.Prelude.{◌≡◌, cond, length};
 ghost use Rattle.std.specs.Int.Signed.{le_z, lt_z};
 ghost use Rattle.base_exact.specs.Tabulate.{tab};
@@ -13,14 +15,14 @@ ghost use Rattle.curve_ordinates.specs.Wood.{wood_of};
 use base_outcome::limits;
 
 // A wood part.
-#[derive(Drop)]
+#[derive(Clone, Copy)]
 pub enum Wood {
     Earlywood,
     Latewood,
 }
 
 // A column's terms so far: their sum, and the least and greatest coefficient with weight. `some` is false before the first.
-#[derive(Drop)]
+#[derive(Clone, Copy)]
 pub struct Terms {
     pub some: bool,
     pub sum: i64,

@@ -1,4 +1,6 @@
 // The parts of a beam from the left: each is built by itself, and its ordinates are put behind those of the parts before it.
+#![tactic(auto)]
+
 ghost use Rattle.std.specs.Prelude.{◌+◌};
 ghost use Rattle.spec_spline.specs.Reading.{coefficient};
 ghost use Rattle.theorems_beams.specs.Sections.{part_at};

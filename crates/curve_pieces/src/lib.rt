@@ -1,5 +1,7 @@
 // One piece of a curve for the screen: the weights and the ordinates of all columns as for a curve call without positions, and
 // then the named segment's ordinates and ends as 64-bit floats.
+#![tactic(auto)]
+
 ghost use Rattle.std.specs.Prelude.{◌≡◌};
 ghost use Rattle.build_space.specs.Machine.{space};
 ghost use Rattle.curve_ordinates.specs.Wood.{wood_of};
@@ -11,21 +13,21 @@ use curve_drawing::Curve;
 use curve_ordinates::Wood;
 
 // The two ends of a piece, in rings.
-#[derive(Drop)]
+#[derive(Clone, Copy)]
 pub struct Ends {
     pub start: f64,
     pub end: f64,
 }
 
 // A piece with its ends beside it.
-#[derive(Drop)]
+#[derive(Clone, Copy)]
 pub struct Drawing {
     pub curve: Curve,
     pub ends: Ends,
 }
 
 // What the call answers: the piece, or a refusal's code and place.
-#[derive(Drop)]
+#[derive(Clone, Copy)]
 pub enum PieceAnswer {
     Drawn(Drawing),
     Refused(u8, u32),

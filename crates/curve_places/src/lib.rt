@@ -1,5 +1,7 @@
 // The values at one position: its location and its rate, found once for both woods, and for each wood the segment's ordinates and
 // the de Casteljau triangle on them. A rate takes the inverse of the segment's length, worked out once a call.
+#![tactic(auto)]
+
 ghost use Rattle.std.specs.Prelude.{◌≡◌, [], ◌+◌, ◌<◌, ◌≤◌, pos, length};
 ghost use Rattle.build_space.specs.Machine.{space};
 ghost use Rattle.spec_spline.specs.Reading;
@@ -11,7 +13,7 @@ use base_outcome::limits;
 
 // Where a position lies: its segment's first column and degree, how far past the segment's start it is and how long the
 // segment is, both in 256ths of a ring.
-#[derive(Drop)]
+#[derive(Clone, Copy)]
 pub struct Location {
     pub column: usize,
     pub degree: usize,
@@ -20,7 +22,7 @@ pub struct Location {
 }
 
 // The values of both woods at a position.
-#[derive(Drop)]
+#[derive(Clone, Copy)]
 pub struct Pair {
     pub early: i32,
     pub late: i32,

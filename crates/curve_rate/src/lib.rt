@@ -1,5 +1,7 @@
 // The rate of a position in its segment, u / d as two whole numbers, by products alone: from the inverse of d, which all positions of
 // the segment share. A rate gives the nearest number to its product with a rise, which is what a blend asks.
+#![tactic(auto)]
+
 ghost use Rattle.std.specs.Prelude.{◌≡◌, ◌^◌, ℤ, nat_abs, ◌*ℤ◌};
 ghost use Rattle.base_exact.specs.Floor.{floor_div, nearest};
 ghost use Rattle.curve_rate.specs.Rate.{whole_of, tail_of, Length, Rated, RateAsks, CarryAsks, ShareAsks, RateIs};
@@ -18,7 +20,7 @@ const FINE_BITS: u32 = 29;
 const HALF: i64 = 4294971392;
 
 // u / d as two whole numbers: 2^33ths, and 29 bits more.
-#[derive(Drop)]
+#[derive(Clone, Copy)]
 pub struct Rate {
     pub high: i64,
     pub low: i64,

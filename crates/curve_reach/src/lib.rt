@@ -1,5 +1,7 @@
 // The first position at which the curve of a wood part reaches a width: the weights and the ordinates of all columns as for the
 // curve call without positions, and then a search over the segments.
+#![tactic(auto)]
+
 ghost use Rattle.std.specs.Prelude.{◌≡◌};
 ghost use Rattle.base_outcome.specs.Search;
 ghost use Rattle.spec_spline.specs.Reading.{fine};
@@ -17,7 +19,7 @@ use curve_ordinates::Wood;
 use curve_reach_search::FirstPosition;
 
 // What the call answers: the position, or a refusal's code and place.
-#[derive(Drop)]
+#[derive(Clone, Copy)]
 pub enum ReachAnswer {
     Reached(i32),
     Refused(u8, u32),

@@ -1,4 +1,6 @@
 // The first position of the span at which a curve with given ordinates reaches a target: segment by segment.
+#![tactic(auto)]
+
 ghost use Rattle.std.specs.Prelude.{◌≡◌, [], pos, ◌+ℤ◌};
 ghost use Rattle.base_outcome.specs.Search.{first};
 ghost use Rattle.spec_spline.specs.Space.{break};
@@ -17,7 +19,7 @@ const PAST_THE_END: usize = 1;
 const PAST_A_DISCONTINUITY: usize = 1;
 
 // The first position that reaches the target, if any does.
-#[derive(Drop)]
+#[derive(Clone, Copy)]
 pub enum FirstPosition {
     At(i32),
     Nowhere,

@@ -1,5 +1,7 @@
 // The first offset of a segment at which the value of its ordinates reaches a target: from position to position, past those that the
 // value before them cannot rise to.
+#![tactic(auto)]
+
 ghost use Rattle.std.specs.Prelude.{◌≡◌, suc, ◌+◌, ◌-◌, ◌*◌, ◌≤◌, pos, get_or};
 ghost use Rattle.std.specs.Int.Signed.{le_z};
 ghost use Rattle.base_outcome.specs.Search.{first};

@@ -1,4 +1,6 @@
 // The segment of a position, by the first positions of all segments, which are worked out once a call.
+#![tactic(auto)]
+
 ghost use Rattle.std.specs.Prelude.{◌≡◌, List, [], ◌<◌, ◌≤◌, ℤ, pos, length, get_or};
 ghost use Rattle.std.proofs.Math.Option;
 ghost use Rattle.std.specs.Int.Signed.{le_z};

@@ -1,5 +1,7 @@
 // Where every curve call starts: the tests, the weights, and the ordinates of all columns for both wood parts. The calls then read
 // them at given positions, for the first reach, or as a piece.
+#![tactic(auto)]
+
 ghost use Rattle.build_space.specs.Machine.{space};
 ghost use Rattle.curve_parts.specs.Parts.{lent};
 ghost use Rattle.curve_start.specs.Machine.{ColumnRoom, call, CurvesLeave};

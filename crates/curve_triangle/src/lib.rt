@@ -1,4 +1,6 @@
 // The de Casteljau triangle on at most six ordinates held by value, with one rate for all of its blends.
+#![tactic(auto)]
+
 ghost use Rattle.curve_triangle.specs.Triangle.{BlendAsks, StageAsks, BlendIs, StageIs, TriangleIs};
 
 // Neighbours g, h at u of d.

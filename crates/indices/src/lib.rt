@@ -1,5 +1,7 @@
 // Ring indices: each measured ring divided by the curve of a named wood part. Of the code of the curves it calls `curve::curve` alone, and
 // knows of it what its contract promises.
+#![tactic(auto)]
+
 ghost use Rattle.std.specs.Prelude.{◌≡◌, ◌+◌, ◌≤◌, length};
 ghost use Rattle.spec_spline.specs.CurveCall.{position_limit, curve_end};
 ghost use Rattle.indices.specs.Words.{nearest_word, word_positions, rings_taken};

@@ -1,4 +1,6 @@
 // The rings by the value cells: code 14 at the first ring that it refuses, and the index of each.
+#![tactic(auto)]
+
 ghost use Rattle.std.specs.Prelude.{◌≡◌, ◌++◌, length, drop};
 ghost use Rattle.base_exact.specs.Tabulate.{tab};
 ghost use Rattle.base_outcome.specs.Search;

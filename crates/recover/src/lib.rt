@@ -1,4 +1,6 @@
 // The coefficients that give a list of local ordinates: exact fractions, by the steps of § 12.
+#![tactic(auto)]
+
 ghost use Rattle.std.specs.Prelude.{◌≡◌};
 ghost use Rattle.build_space.specs.Machine.{space};
 ghost use Rattle.base_outcome.specs.Machine.{reply};

@@ -1,4 +1,6 @@
 // The coefficients of the rows in their arrays: that of a row dropped, and those of rows that come in.
+#![tactic(auto)]
+
 ghost use Rattle.std.specs.Prelude.{◌≡◌, List, ◌++◌, map, suc, ◌+◌, ◌<◌, ◌≤◌, length, take, drop};
 ghost use Rattle.base_exact.specs.Rational.{ℚ, int};
 ghost use Rattle.spec_spline.specs.Table.{row_cells};

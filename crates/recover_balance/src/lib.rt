@@ -1,4 +1,6 @@
 // The zero test of a step that is undone: the rows' coefficients times their jumps sum to zero.
+#![tactic(auto)]
+
 ghost use Rattle.std.specs.Prelude.{◌≡◌, List, ℕ, ◌≤◌, length};
 ghost use Rattle.base_exact.specs.Rational.{ℚ};
 ghost use Rattle.spec_spline.specs.Table.{row_cells};
@@ -11,7 +13,7 @@ use base_fraction::arrays::Fractions;
 use base_fraction::{Counted, Fraction, arrays};
 
 // The sum of coefficients times jumps.
-#[derive(Drop)]
+#[derive(Clone, Copy)]
 pub enum Balance {
     Zero,
     NotZero,

@@ -1,4 +1,6 @@
 // Counted fractions of a step that is undone: a sum with one more product, and a new coefficient.
+#![tactic(auto)]
+
 ghost use Rattle.std.specs.Prelude.{◌≡◌, cond, not, ℕ};
 ghost use Rattle.base_exact.specs.Rational.{ℚ, ◌+ᵠ◌, ◌*ᵠ◌};
 ghost use Rattle.base_exact.specs.Order.{is_zero};

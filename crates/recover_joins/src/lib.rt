@@ -1,4 +1,6 @@
 // The steps of the build, each followed by its undoing on the present coefficients of the rows.
+#![tactic(auto)]
+
 ghost use Rattle.std.specs.Prelude.{◌≡◌, List, [], ℕ, length};
 ghost use Rattle.base_exact.specs.Rational.{ℚ};
 ghost use Rattle.base_fraction.specs.Fractions.{fractions};
@@ -22,21 +24,21 @@ use build_conditions::Join;
 use recover_balance::Balance;
 
 // The code of a refusal, if there is one.
-#[derive(Drop)]
+#[derive(Clone, Copy)]
 pub enum UndoRefusal {
     None,
     Refused(u8),
 }
 
 // The coefficients of the rows, if no step was refused.
-#[derive(Drop)]
+#[derive(Clone, Copy)]
 pub struct RowCoefficients {
     pub refusal: UndoRefusal,
     pub of: Fractions,
 }
 
 // The count of a part's rows, or the refusal with its place; and the coefficients of the rows.
-#[derive(Drop)]
+#[derive(Clone, Copy)]
 pub struct Joined {
     pub built: Answer,
     pub of: Fractions,

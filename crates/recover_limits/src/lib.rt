@@ -1,4 +1,6 @@
 // The refusal 18 of a call for coefficients: ordinates that are not as many as the columns, or out of range.
+#![tactic(auto)]
+
 ghost use Rattle.std.specs.Prelude.{◌≡◌, [], ◌≤◌, length};
 ghost use Rattle.spec_spline.specs.Space.{segment_limit};
 ghost use Rattle.build_space.specs.Machine.{space};

@@ -1,4 +1,6 @@
 // The new coefficients of the rows of a step that is undone.
+#![tactic(auto)]
+
 ghost use Rattle.std.specs.Prelude.{◌≡◌, List, ◌++◌, ℕ, ◌-◌, ◌≤◌, length, take, drop};
 ghost use Rattle.base_exact.specs.Rational.{ℚ};
 ghost use Rattle.base_outcome.specs.Outcome.{with_answer};
@@ -11,7 +13,7 @@ use base_fraction::arrays::Fractions;
 use base_fraction::{Counted, arrays};
 
 // The new coefficients, if no fraction was too large.
-#[derive(Drop)]
+#[derive(Clone, Copy)]
 pub struct Undone {
     pub fit: bool,
     pub coefficients: Fractions,

@@ -1,4 +1,6 @@
 // Reads a wood, a sheet and a Tucson text from standard input and writes the table of indices to standard output, series by series.
+#![tactic(auto)]
+
 ghost use Rattle.std.specs.Prelude.{◌≤◌, length};
 ghost use Rattle.curve_ordinates.specs.Wood.{wood_of};
 ghost use Rattle.rings_pieces.specs.Piece.{Held, width_cells};

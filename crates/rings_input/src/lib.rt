@@ -1,4 +1,6 @@
 // The parts of the input of the program `rings`: the wood that the first line names, and where the sheet's five lines end.
+#![tactic(auto)]
+
 ghost use Rattle.std.specs.Prelude.{◌≡◌, ◌+◌, ◌≤◌, length, drop};
 ghost use Rattle.spec_rings.specs.Parts;
 ghost use Rattle.rings_input.specs.Machine.{HeadedAs};
@@ -6,7 +8,7 @@ ghost use Rattle.rings_input.specs.Machine.{HeadedAs};
 use curve_ordinates::Wood;
 
 // The wood of the first line and where the next line begins, or another first line.
-#[derive(Drop)]
+#[derive(Clone, Copy)]
 pub enum FirstLine {
     Names(Wood, usize),
     Other,

@@ -1,4 +1,6 @@
 // The bytes that the program `rings` prints, piece by piece: series k of what is ready for the input.
+#![tactic(auto)]
+
 ghost use Rattle.std.specs.Prelude.{◌≡◌, length};
 ghost use Rattle.base_print.specs.Buffer.{Prints};
 ghost use Rattle.curve_ordinates.specs.Wood.{wood_of};

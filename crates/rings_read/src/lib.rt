@@ -1,4 +1,6 @@
 // The input of the program `rings` read and judged: the first refusal, or the lists that its table is made from.
+#![tactic(auto)]
+
 ghost use Rattle.std.specs.Prelude.{◌≡◌, ◌≤◌, length, take};
 ghost use Rattle.base_outcome.specs.Outcome.{capped};
 ghost use Rattle.base_outcome.specs.Machine.{legality};
@@ -18,7 +20,7 @@ use sheet_read::Lists;
 const SHEET_LINES: usize = 5;
 
 // A wood, the lengths of breakpoints, degrees, orders and coefficients, and the count of series; or a refusal.
-#[derive(Drop)]
+#[derive(Clone, Copy)]
 pub enum Readiness {
     Ready(Wood, usize, usize, usize, usize, usize),
     Refused(u8, u32),

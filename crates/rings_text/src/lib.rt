@@ -1,4 +1,6 @@
 // The bytes that the program `rings` prints of one series: the lines of its rings, or the one line of its refusal.
+#![tactic(auto)]
+
 ghost use Rattle.std.specs.Prelude.{◌≡◌, ◌^◌, ◌<◌, ◌≤◌, pos, ◌+ℤ◌, length};
 ghost use Rattle.spec_spline.specs.CurveCall.{position_limit};
 ghost use Rattle.spec_table.specs.RingLines.{ring_lines};

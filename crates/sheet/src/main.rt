@@ -1,4 +1,6 @@
 // Reads a sheet from standard input and writes its printout to standard output.
+#![tactic(auto)]
+
 use base_outcome::limits;
 
 // One byte more than the longest sheet, so that a longer text is seen to be too long.

@@ -1,4 +1,6 @@
 // The w lines of a beam: each part is built again in the two lent buffers, and its rows and columns are counted over the beam.
+#![tactic(auto)]
+
 ghost use Rattle.std.specs.Prelude.{◌*◌, ◌^◌, ◌≤◌};
 ghost use Rattle.spec_spline.specs.Table.{row_cells};
 ghost use Rattle.build_space.specs.Machine.{space};

@@ -1,4 +1,6 @@
 // One line of the sheet: whether it has its key and a list of such entries, and where that list stands.
+#![tactic(auto)]
+
 ghost use Rattle.std.specs.Prelude.{◌≡◌, ◌≤◌, length, drop};
 ghost use Rattle.std.proofs.Math.Seq.{slice};
 ghost use Rattle.base_text.specs.Bytes.{Range};
@@ -14,21 +16,21 @@ use base_text::numeral::Field;
 pub const LIST_LIMIT: usize = limits::POSITION_LIMIT;
 
 // What the entries of a list are: numbers, or pairs earlywood:latewood.
-#[derive(Drop)]
+#[derive(Clone, Copy)]
 pub enum Entry {
     Numeral,
     Pair,
 }
 
 // How many entries a list has, if it is one.
-#[derive(Drop)]
+#[derive(Clone, Copy)]
 enum Count {
     Entries(usize),
     Bad,
 }
 
 // Where a line's list begins and ends, if the line is good.
-#[derive(Drop)]
+#[derive(Clone, Copy)]
 pub enum LineSpan {
     List(usize, usize),
     Bad,

@@ -1,4 +1,6 @@
 // Reading the five lines: first all of them are looked through (sheet_read), and only then are the lists written.
+#![tactic(auto)]
+
 ghost use Rattle.spec_sheet.specs.SheetReading;
 ghost use Rattle.sheet_read.specs.Scanned.{Scanned};
 ghost use Rattle.std.specs.Prelude.{◌≡◌, ◌+◌, length};
@@ -12,7 +14,7 @@ use base_text::numeral::Field;
 use sheet_lines::{Entry, LineSpan};
 
 // Where the five lists begin and end, or the place of code 10.
-#[derive(Drop)]
+#[derive(Clone, Copy)]
 pub enum ListSpans {
     Lists(usize, usize, usize, usize, usize, usize, usize, usize, usize, usize),
     Refused(u32),
@@ -52,7 +54,7 @@ fn scan(text: &[u8]) -> ListSpans
 pub const COEFFICIENT_NUMBERS: usize = 2 * sheet_lines::LIST_LIMIT;
 
 // How many numbers the five lists have, two for each pair of coefficients, or the place of code 10.
-#[derive(Drop)]
+#[derive(Clone, Copy)]
 pub enum Lists {
     Read(usize, usize, usize, usize, usize),
     Refused(u32),

@@ -1,4 +1,6 @@
 // The sheet: five lines of text in, the printout out, on bytes.
+#![tactic(auto)]
+
 ghost use Rattle.std.specs.Prelude.{◌≡◌, ◌≤◌, length};
 ghost use Rattle.spec_spline.specs.Build.{space_weights};
 ghost use Rattle.spec_spline.specs.CurveCall.{position_limit};

@@ -1,5 +1,7 @@
 // The w lines, into a lent buffer. Each function writes its text from an index on, as far as the buffer reaches, and
 // answers the index after it. The limits on the index keep every sum from overflowing; a caller's limit is below its callees'.
+#![tactic(auto)]
+
 ghost use Rattle.std.specs.Prelude.{◌≡◌, ◌*◌, ◌^◌, ◌≤◌, nat_abs};
 ghost use Rattle.spec_spline.specs.Table.{row_cells};
 ghost use Rattle.base_print.specs.Buffer.{Puts};

@@ -1,1 +1,2 @@
 // The published construction as definitions, in specs/. This crate has no code.
+#![tactic(auto)]

@@ -1,1 +1,2 @@
 // The program `rings` as definitions, in specs/. This crate has no code.
+#![tactic(auto)]

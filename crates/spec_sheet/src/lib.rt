@@ -1,1 +1,2 @@
 // The sheet's text and its printout as definitions, in specs/. This crate has no code.
+#![tactic(auto)]

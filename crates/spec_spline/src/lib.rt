@@ -1,1 +1,2 @@
 // The specification as definitions, in specs/. This crate has no code.
+#![tactic(auto)]

@@ -1,1 +1,2 @@
 // Tucson decadal files as definitions, in specs/. This crate has no code.
+#![tactic(auto)]

@@ -1,5 +1,7 @@
 // The numbers of one line of the table of indices (§ 17): how many bytes they have with their commas and byte 10, and they put into a
 // buffer that has room for them.
+#![tactic(auto)]
+
 ghost use Rattle.std.specs.Prelude.{◌≡◌, [], ◌∷◌, ◌++◌, ◌+◌, ◌≤◌, length};
 ghost use Rattle.base_text.specs.Bytes.{newline, comma};
 ghost use Rattle.base_text.specs.Numeral.{decimal};

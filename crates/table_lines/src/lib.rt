@@ -1,5 +1,7 @@
 // The lines of the table of indices (§ 17): whether a buffer has room for them, and they put into it. The call refuses before
 // anything is written.
+#![tactic(auto)]
+
 ghost use Rattle.std.specs.Prelude.{◌≡◌, ◌++◌, ◌+◌, ◌^◌, ◌<◌, ◌≤◌, leb, pos, ◌+ℤ◌, length};
 ghost use Rattle.base_outcome.specs.Machine.{reply};
 ghost use Rattle.spec_spline.specs.Reading.{wood_index};

@@ -1,4 +1,6 @@
 // The name of a series as the table of indices has it (§ 17): without its outer blanks, and quoted where it must be.
+#![tactic(auto)]
+
 ghost use Rattle.std.specs.Prelude.{◌≡◌, ◌*◌, ◌≤◌, length};
 ghost use Rattle.base_print.specs.Buffer.{Puts, Prints};
 ghost use Rattle.spec_tucson.specs.Line.{name_columns};

@@ -1,5 +1,7 @@
 // The numbers of the table of indices (§ 17): how many bytes each has, and each put into a buffer that has room for it. A function
 // that puts answers the index after its text.
+#![tactic(auto)]
+
 ghost use Rattle.std.specs.Prelude.{◌≡◌, [], ◌∷◌, ◌++◌, ◌+◌, ◌<◌, ◌≤◌, length};
 ghost use Rattle.base_text.specs.Numeral.{digits, decimal};
 ghost use Rattle.spec_table.specs.Decimals.{point, last_digits, sign, with_decimals};

@@ -1,1 +1,2 @@
 // The nodes of a space, stated in specs/ and proved in proofs/. This crate has no code.
+#![tactic(auto)]

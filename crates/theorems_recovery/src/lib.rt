@@ -1,1 +1,2 @@
 // Coefficients from local ordinates: the theorems alone (specs/ has the statements, proofs/ the proofs).
+#![tactic(auto)]

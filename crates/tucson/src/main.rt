@@ -1,4 +1,6 @@
 // Reads a Tucson text from standard input and writes its series in thousandths to standard output.
+#![tactic(auto)]
+
 use base_outcome::limits;
 
 // One byte more than the longest text, so that a longer one is seen to be too long.

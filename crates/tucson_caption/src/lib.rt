@@ -1,4 +1,6 @@
 // Lines of a header: three lines with the same first columns, numbered 1 to 3, with words and no numbers behind that.
+#![tactic(auto)]
+
 ghost use Rattle.std.specs.Prelude.{not, ◌≡◌, ◌+◌, ◌≤◌, length, take, drop};
 ghost use Rattle.std.proofs.Math.Seq.{slice};
 ghost use Rattle.base_text.specs.Bytes.{Range};

@@ -1,5 +1,7 @@
 // All lines of a laboratory's file tested: which are kept, and whether a strict text can be made of them. A line is held until the next
 // one that is kept is known, or the end, since only then is it known whether its series goes on.
+#![tactic(auto)]
+
 ghost use Rattle.std.specs.Prelude.{◌&&◌, not, ◌≡◌, ◌+◌, ◌-◌, ◌≤◌};
 ghost use Rattle.std.proofs.Math.Option.{none};
 ghost use Rattle.std.proofs.Math.Seq.{slice};
@@ -18,7 +20,7 @@ use tucson_shown::Strict;
 
 // The line that is held: whether there is one, how many bytes are shown of it and how many it has, its number, whether it follows its
 // series; and what was found in the lines before it.
-#[derive(Drop)]
+#[derive(Clone, Copy)]
 pub struct Held {
     pub some: bool,
     pub shown: usize,
@@ -29,14 +31,14 @@ pub struct Held {
 }
 
 // The line is held now, or its name is not the bytes of the name before it.
-#[derive(Drop)]
+#[derive(Clone, Copy)]
 pub enum Next {
     Held(Held),
     Misnamed,
 }
 
 // The line is held now, or refused by a code.
-#[derive(Drop)]
+#[derive(Clone, Copy)]
 pub enum Taken {
     Held(Held),
     Refused(u8),

@@ -1,4 +1,6 @@
 // A laboratory's file brought into the strict form: all lines are tested first, then counted, and only then are the lent buffers written.
+#![tactic(auto)]
+
 ghost use Rattle.std.specs.Prelude.{◌≡◌, ◌+◌, ◌^◌, ◌<◌, ◌≤◌, length};
 ghost use Rattle.base_outcome.specs.Outcome.{◌then◌};
 ghost use Rattle.spec_tucson.specs.Line.{lines_of};
@@ -14,14 +16,14 @@ use tucson_notes::kinds;
 use tucson_walk::Walked;
 
 // How many lines a text has, and whether byte 10 ends the last one.
-#[derive(Drop)]
+#[derive(Clone, Copy)]
 pub struct Tail {
     pub count: usize,
     pub ended: bool,
 }
 
 // How many bytes, lines and notes there are, or a refusal.
-#[derive(Drop)]
+#[derive(Clone, Copy)]
 pub enum Cleaned {
     Counts(usize, usize, usize),
     Refused(u8, u32),

@@ -1,4 +1,6 @@
 // The bytes of a line in the columns in which they are shown: its end, its trailing blanks, and its tabs as blanks in an array.
+#![tactic(auto)]
+
 ghost use Rattle.std.specs.Prelude.{◌≡◌, ◌≤◌, length, replicate};
 ghost use Rattle.base_text.specs.Bytes.{Range};
 ghost use Rattle.spec_tucson.specs.Columns.{blank};
@@ -17,7 +19,7 @@ const TAB_WIDTH: usize = 8;
 pub const HIGH: u8 = 128;
 
 // The index of a text up to which all is put, and how many columns there are.
-#[derive(Drop)]
+#[derive(Clone, Copy)]
 pub struct Columns {
     pub at: usize,
     pub count: usize,

@@ -1,4 +1,6 @@
 // The numbers of a strict line: its year, its last field, and what is to be known of the fields before that.
+#![tactic(auto)]
+
 ghost use Rattle.std.specs.Prelude.{true, ◌≡◌, ◌+◌, ◌*◌, ◌≤◌, length};
 ghost use Rattle.spec_tucson.specs.Line.{head_columns, field_columns};
 ghost use Rattle.spec_tucson.specs.StrictLine.{is_strict};
@@ -10,7 +12,7 @@ use tucson_lines::units;
 
 // The year, how many fields there are, whether the fields but the last are widths, whether all of them are at most 9,999, whether 999
 // is one of them, and the last field.
-#[derive(Drop)]
+#[derive(Clone, Copy)]
 pub struct Facts {
     pub year: i32,
     pub count: usize,
@@ -21,7 +23,7 @@ pub struct Facts {
 }
 
 // The same of the fields but the last alone.
-#[derive(Drop)]
+#[derive(Clone, Copy)]
 struct FrontFacts {
     widths: bool,
     small: bool,

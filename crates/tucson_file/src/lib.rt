@@ -1,4 +1,6 @@
 // The text of a laboratory's file: where it begins and ends, and the first byte that no text has.
+#![tactic(auto)]
+
 ghost use Rattle.std.specs.Prelude.{◌≡◌, ◌+◌, ◌<◌, ◌≤◌, length, drop};
 ghost use Rattle.std.proofs.Math.Seq.{slice};
 ghost use Rattle.base_outcome.specs.Machine.{found};

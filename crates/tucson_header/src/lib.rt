@@ -1,4 +1,6 @@
 // The header of a laboratory's file: three lines that are guessed, or so many lines as the caller names.
+#![tactic(auto)]
+
 ghost use Rattle.std.specs.Prelude.{◌&&◌, not, ◌≡◌, ◌+◌, ◌<◌, ◌≤◌, drop};
 ghost use Rattle.std.proofs.Math.Seq.{slice};
 ghost use Rattle.spec_tucson.specs.Line.{lines_of};
@@ -10,14 +12,14 @@ ghost use Rattle.tucson_header.specs.Machine.{header_answer, NumberFits, LineTol
 use tucson_shown::Strict;
 
 // The number of the header's last line, 0 where there is none; or the place of code 26.
-#[derive(Drop)]
+#[derive(Clone, Copy)]
 pub enum HeaderFound {
     Ends(usize),
     Refused(u32),
 }
 
 // A line that is not blank, from the one index up to the other, and its number; or there is none.
-#[derive(Drop)]
+#[derive(Clone, Copy)]
 pub enum Line {
     At(usize, usize, usize),
     Over,

@@ -1,5 +1,7 @@
 // One strict line judged, once it is known whether its series goes on in the next: codes 23, 24 and 25, and the strict reader's own
 // codes. What was found of each kind so far is kept side by side, since 23 comes before 24 and 25, and these before the reader's.
+#![tactic(auto)]
+
 ghost use Rattle.std.specs.Prelude.{true, cond, ◌&&◌, ◌||◌, ◌≡◌, ◌+◌, ◌≤◌, leb};
 ghost use Rattle.std.proofs.Math.Option.{some, none};
 ghost use Rattle.base_outcome.specs.Search;
@@ -17,7 +19,7 @@ use tucson_lines::units;
 use tucson_scan::Passed;
 
 // A code and the line that it is for; line 0 where there is none.
-#[derive(Drop)]
+#[derive(Clone, Copy)]
 pub struct Mark {
     pub code: u8,
     pub line: usize,
@@ -25,7 +27,7 @@ pub struct Mark {
 
 // The strict reader: its refusal, if there is one, and else whether a series is begun, the year that must come next, and whether all
 // widths so far are at most 9,999.
-#[derive(Drop)]
+#[derive(Clone, Copy)]
 pub struct Reader {
     pub code: u8,
     pub line: usize,
@@ -36,7 +38,7 @@ pub struct Reader {
 
 // What was found in the lines so far: the first line of code 23, the first of codes 24 and 25, the first line of this series with 999
 // before the closing, and the reader.
-#[derive(Drop)]
+#[derive(Clone, Copy)]
 pub struct Judged {
     pub year: usize,
     pub fault: Mark,

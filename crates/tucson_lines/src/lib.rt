@@ -1,5 +1,7 @@
 // One line of a Tucson text: its columns and end, its name, the numbers of its year and fields, and whether the next line has
 // the same name.
+#![tactic(auto)]
+
 pub mod units;
 
 ghost use Rattle.std.specs.Prelude.{true, ◌&&◌, ◌||◌, ◌≡◌, ◌+◌, ◌≤◌, length, drop};
@@ -20,14 +22,14 @@ use base_text::numeral::Field;
 const DECADE_YEARS: u32 = limits::DECADE as u32;
 
 // A good line: its year, how many fields it has, whether all fields but the last are at most 9,999, and the last field.
-#[derive(Drop)]
+#[derive(Clone, Copy)]
 pub enum LineAnswer {
     Good(i32, usize, bool, i32),
     Bad,
 }
 
 // Whether some fields are widths, and if so whether all are at most 9,999.
-#[derive(Drop)]
+#[derive(Clone, Copy)]
 enum WidthsAnswer {
     Small(bool),
     Bad,

@@ -1,4 +1,6 @@
 // A line with ? for what is not ASCII: for each byte over 127, or for each character that is one, if the line is UTF-8.
+#![tactic(auto)]
+
 ghost use Rattle.std.specs.Prelude.{cond, ◌≡◌, leb, take};
 ghost use Rattle.std.proofs.Math.Option.{some, none};
 ghost use Rattle.std.proofs.Math.Seq.{slice};

@@ -1,4 +1,6 @@
 // The name of a strict line: whether the year runs into it, and whether two lines have the same bytes for it.
+#![tactic(auto)]
+
 ghost use Rattle.std.specs.Prelude.{◌&&◌, ◌≡◌, ◌+◌, ◌≤◌, length};
 ghost use Rattle.base_text.specs.Numeral.{is_digit};
 ghost use Rattle.spec_tucson.specs.Line.{head_columns};

@@ -1,4 +1,6 @@
 // The notes of a line: cells of a list of notes, and what is remarked on a strict line by its fields and its series.
+#![tactic(auto)]
+
 pub mod kinds;
 
 ghost use Rattle.std.specs.Prelude.{true, cond, [], ◌∷◌, ◌≡◌, ◌+◌, ◌<◌, ◌≤◌, ◌^◌, length, take};
@@ -26,7 +28,7 @@ pub const CELLS_PER_LINE: usize = 22;
 pub const CELLS_PER_FILE: usize = 4;
 
 // The fields of a strict line: how many, the first, the last, and the one before the last, 0 where there is none.
-#[derive(Drop)]
+#[derive(Clone, Copy)]
 pub struct Fields {
     pub count: usize,
     pub first: i32,
@@ -35,14 +37,14 @@ pub struct Fields {
 }
 
 // The last field of a strict line, and how many there are.
-#[derive(Drop)]
+#[derive(Clone, Copy)]
 pub struct Ending {
     pub count: usize,
     pub last: i32,
 }
 
 // What stands ahead of a line in its series: how many lines with this one, the closing, and how many fields the last line has.
-#[derive(Drop)]
+#[derive(Clone, Copy)]
 pub struct Ahead {
     pub count: usize,
     pub closing: i32,
@@ -51,7 +53,7 @@ pub struct Ahead {
 
 // What was changed in a line: byte 26 ends it, byte 13 and tabs were there, trailing blanks and a site name were taken off, it had no
 // end, it was not ASCII, its closing is the caller's.
-#[derive(Drop)]
+#[derive(Clone, Copy)]
 pub struct Marks {
     pub cut: bool,
     pub returned: bool,

@@ -1,4 +1,6 @@
 // The text of series that can be written and have room, from an index on. Each function answers the index after its text.
+#![tactic(auto)]
+
 ghost use Rattle.std.specs.Prelude.{◌≡◌, [], ◌∷◌, ◌++◌, ◌+◌, ◌≤◌, length, replicate};
 ghost use Rattle.base_text.specs.Numeral.{decimal};
 ghost use Rattle.spec_tucson.specs.Columns.{blank, columns};

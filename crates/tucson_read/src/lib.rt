@@ -1,5 +1,7 @@
 // Reading a Tucson text: first all lines are looked through, then the lent buffers are compared with what was found, and only
 // then are they written.
+#![tactic(auto)]
+
 ghost use Rattle.std.specs.Prelude.{cond, ◌≡◌, ◌+◌, length};
 ghost use Rattle.std.proofs.Math.Seq.{slice};
 ghost use Rattle.std.proofs.lemmas.List.Edits.{sets};

@@ -1,4 +1,6 @@
 // The first pass: every line is tested in its place, and series and widths are counted. Nothing is written.
+#![tactic(auto)]
+
 ghost use Rattle.std.specs.Prelude.{true, false, cond, ◌&&◌, ◌||◌, not, ◌≡◌, ◌≤◌, eqb};
 ghost use Rattle.spec_tucson.specs.Line.{year_in_decade, same};
 ghost use Rattle.spec_tucson.specs.TextReading.{read_text};
@@ -9,7 +11,7 @@ use base_outcome::codes;
 use tucson_lines::{LineAnswer, units};
 
 // How many series and widths a text has, or a refusal's code and place.
-#[derive(Drop)]
+#[derive(Clone, Copy)]
 pub enum Scanned {
     Totals(usize, usize),
     Refused(u8, u32),
@@ -17,7 +19,7 @@ pub enum Scanned {
 
 // What a line leaves: whether its series goes on, how many widths it has, and if the series goes on the year that must come
 // next and whether all widths so far are at most 9,999. Or the code of its refusal.
-#[derive(Drop)]
+#[derive(Clone, Copy)]
 pub enum Passed {
     On(bool, usize, i32, bool),
     Refused(u8),

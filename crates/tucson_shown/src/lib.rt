@@ -1,4 +1,6 @@
 // A line of a laboratory's file as it is shown, and the strict line that it is.
+#![tactic(auto)]
+
 ghost use Rattle.std.specs.Prelude.{◌≡◌, ◌+◌, ◌-◌, ◌<◌, length, take};
 ghost use Rattle.std.proofs.Math.Seq.{slice};
 ghost use Rattle.base_text.specs.Bytes.{Range};
@@ -12,7 +14,7 @@ use base_outcome::limits;
 
 // The strict line of a raw line: how many bytes are shown of it, how many it has, and whether a site name was taken off; or why it is
 // none: its columns, or bytes over 127.
-#[derive(Drop)]
+#[derive(Clone, Copy)]
 pub enum Strict {
     Line(usize, usize, bool),
     Malformed,
@@ -20,7 +22,7 @@ pub enum Strict {
 }
 
 // What is shown of a line without a site name: how many bytes, if an array has room for them, and whether a site name was taken off.
-#[derive(Drop)]
+#[derive(Clone, Copy)]
 enum Front {
     Fits(usize, bool),
     Long,

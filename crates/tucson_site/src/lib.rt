@@ -1,4 +1,6 @@
 // The data bank's site name behind the columns of a line: blanks, then two to four letters, three digits and perhaps one more letter.
+#![tactic(auto)]
+
 ghost use Rattle.std.specs.Prelude.{◌≡◌, ◌+◌};
 ghost use Rattle.std.proofs.Math.Seq.{slice};
 ghost use Rattle.base_text.specs.Bytes.{Range};

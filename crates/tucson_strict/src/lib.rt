@@ -1,4 +1,6 @@
 // Whether the bytes at the front of an array are a strict line: a name, a year and one to ten fields, each in its columns.
+#![tactic(auto)]
+
 ghost use Rattle.std.specs.Prelude.{◌≡◌, length, take, ◌<◌};
 ghost use Rattle.std.proofs.Math.Seq.{slice};
 ghost use Rattle.base_text.specs.Bytes.{Range};

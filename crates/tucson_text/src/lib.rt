@@ -1,4 +1,6 @@
 // The filter: a Tucson text in, the same series in thousandths out, on bytes.
+#![tactic(auto)]
+
 ghost use Rattle.std.specs.Prelude.{◌≡◌, ◌≤◌, length};
 ghost use Rattle.base_print.specs.Buffer.{Prints};
 ghost use Rattle.spec_tucson.specs.TextReading.{read_text};

@@ -1,4 +1,6 @@
 // The lines of a laboratory's file below its header, gone through one after another.
+#![tactic(auto)]
+
 ghost use Rattle.std.specs.Prelude.{true, cond, ◌≡◌, ◌+◌, ◌≤◌, length, take};
 ghost use Rattle.std.proofs.Math.Seq.{slice};
 ghost use Rattle.base_print.specs.Buffer.{Puts};
@@ -19,7 +21,7 @@ use tucson_notes::{Ahead, Fields, Marks, kinds};
 use tucson_shown::Strict;
 
 // The line behind another one in its series: whether there is one, where the lines behind it begin, and how many bytes it has.
-#[derive(Drop)]
+#[derive(Clone, Copy)]
 pub struct Following {
     pub found: bool,
     pub past: usize,
@@ -27,7 +29,7 @@ pub struct Following {
 }
 
 // A line that is not blank: where it begins and where it ends; or an index past the text.
-#[derive(Drop)]
+#[derive(Clone, Copy)]
 pub struct Unblank {
     pub at: usize,
     pub end: usize,
@@ -35,7 +37,7 @@ pub struct Unblank {
 
 // What is known of the series of a line: what stands ahead of it, 0 lines where the next line begins a series; whether the closing of the
 // file's first series is known, and that.
-#[derive(Drop)]
+#[derive(Clone, Copy)]
 pub struct Series {
     pub ahead: Ahead,
     pub known: bool,
@@ -43,7 +45,7 @@ pub struct Series {
 }
 
 // The indices behind what is put: bytes of text, numbers of lines, cells of notes.
-#[derive(Drop)]
+#[derive(Clone, Copy)]
 pub struct Walked {
     pub bytes: usize,
     pub lines: usize,
@@ -51,7 +53,7 @@ pub struct Walked {
 }
 
 // What is known of the series, and what is put, between two lines.
-#[derive(Drop)]
+#[derive(Clone, Copy)]
 pub struct Turn {
     pub series: Series,
     pub walked: Walked,

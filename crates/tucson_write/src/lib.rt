@@ -1,5 +1,7 @@
 // Writing Tucson decadal files (§ 14): four lists of series into a lent text. What can be refused is
 // tested before the first byte is written.
+#![tactic(auto)]
+
 ghost use Rattle.std.specs.Prelude.{◌≡◌};
 ghost use Rattle.spec_tucson.specs.WriteCall.{write_end};
 ghost use Rattle.base_outcome.specs.Machine.{reply};

@@ -1,4 +1,6 @@
 // The engine for C and Rust: the public calls with their answers as a struct by value.
+#![tactic(auto)]
+
 ghost use Rattle.std.specs.Prelude.{◌≡◌};
 ghost use Rattle.build_space.specs.Machine.{space};
 ghost use Rattle.spec_spline.specs.Build.{build_end};

@@ -1,5 +1,7 @@
 // The second library for C and Rust: the index calls and those for the lines of the table of indices, with their answers as a struct by
 // value.
+#![tactic(auto)]
+
 ghost use Rattle.std.specs.Prelude.{◌≡◌};
 ghost use Rattle.build_space.specs.Machine.{space};
 ghost use Rattle.spec_spline.specs.Reading.{earlywood, latewood};

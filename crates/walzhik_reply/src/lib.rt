@@ -1,4 +1,6 @@
 // The struct with which a call for C and Rust answers by a count: both libraries give it, so it stands below both.
+#![tactic(auto)]
+
 ghost use Rattle.std.specs.Prelude.{◌≡◌};
 ghost use Rattle.base_outcome.specs.Machine.{reply};
 ghost use Rattle.walzhik_reply.specs.Machine.{replied};
@@ -7,7 +9,7 @@ use base_outcome::Answer;
 
 // The count of rows, positions, rings, series or bytes, with code 0 and place 0; or count 0 with a refusal's code and place.
 #[repr(C)]
-#[derive(Drop)]
+#[derive(Clone, Copy)]
 pub struct Reply {
     pub count: u64,
     pub number: u32,

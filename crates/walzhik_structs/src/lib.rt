@@ -1,4 +1,6 @@
 // The structs with which the calls of the first library answer beside a count: a position, the counts of a cleaned file, a piece.
+#![tactic(auto)]
+
 ghost use Rattle.std.specs.Prelude.{◌≡◌};
 ghost use Rattle.base_outcome.specs.Outcome.{Outcome, answer, refusal};
 ghost use Rattle.tucson_clean.specs.Machine.{counts};
@@ -11,7 +13,7 @@ ghost use Rattle.walzhik_structs.specs.File.{cleaned};
 
 // The position with code 0 and place 0; or position 0 with a refusal's code and place.
 #[repr(C)]
-#[derive(Drop)]
+#[derive(Clone, Copy)]
 pub struct Reach {
     pub position: i32,
     pub number: u32,
@@ -20,7 +22,7 @@ pub struct Reach {
 
 // How many bytes, lines and notes there are, with code 0 and place 0; or three zeros with a refusal's code and place.
 #[repr(C)]
-#[derive(Drop)]
+#[derive(Clone, Copy)]
 pub struct Cleaned {
     pub bytes: u64,
     pub lines: u64,
@@ -32,7 +34,7 @@ pub struct Cleaned {
 // A piece: code 0 and place 0, its degree from 1 to 3, degree + 1 ordinates and its ends; or a refusal's code and place. All
 // other numbers are 0.
 #[repr(C)]
-#[derive(Drop)]
+#[derive(Clone, Copy)]
 pub struct Piece {
     pub number: u32,
     pub place: u32,
