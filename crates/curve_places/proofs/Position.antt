@@ -1,7 +1,7 @@
 -- A position within the span of legal lists: the segment that holds it, its offset there and the segment's columns, which are
 -- its location; and the value at a location.
 use mathlib.Core.Path.{◌≡◌, refl, sym, ◌∙◌, ap, subst}
-use mathlib.Core.Bool.{Bool, true, ◌&&◌}
+use mathlib.Core.Bool.{Bool, true, false, ◌&&◌}
 use mathlib.Core.List.{List, [], ◌++◌}
 use Prim.Native.Nat.{ℕ, ◌+◌, ◌<◌, ◌≤◌}
 use native.Mathlib.Omega.{arith}
@@ -32,6 +32,7 @@ use Rattle.curve_places.proofs.Local.{local_at}
 
 both : (a b : Bool) → T a → T b → T (a && b)
 both true b p q = q
+both false b p q = elim p [ ]
 
 module _ (b d o : List ℤ) (h : ListsLegal b d o) (x : ℤ) (w : Within (space b d o) x) (i : ℕ) (at : i ≡ segment_at (space b d o) x) where
   checks : Checked (space b d o)

@@ -82,7 +82,7 @@ sides {s} {join} A = let M = A.limits in
       mul-le-mul_right (width s (suc join)) (M.low_degree join (left-segment A)),
       mul-le-mul_right (width s join)
           (M.low_degree (suc join) (right-segment A)),
-      M.neighbours join A.join-below (omega (arith, A.Order-below)),
+      M.neighbours join A.join-below (omega (arith, A.order_below)),
     )
 
 -- an entry of a column that has one row alone

@@ -5,12 +5,12 @@ use mathlib.Core.List.{List, [], ◌∷◌}
 use Prim.Native.Nat.{ℕ}
 use native.Mathlib.Omega.{arith}
 use lib.Dec.{T, ltb}
-use Rattle.base_exact.specs.Rational.{ℚ}
+use Rattle.base_exact.specs.Rational.{ℚ, int, ◌+ᵠ◌, ◌*ᵠ◌}
 use Rattle.base_exact.proofs.Decide.{true_not_false}
 use Rattle.base_outcome.specs.Outcome.{refusal, refuse}
 use Rattle.spec_spline.specs.Space.{Space, checked, degree}
 use Rattle.spec_spline.specs.Conditions.{Entry, conditions}
-use Rattle.spec_spline.specs.Table.{Row, Table, table_cells}
+use Rattle.spec_spline.specs.Table.{Row, Table, entry, table_cells}
 use Rattle.spec_spline.specs.Step.{step}
 use Rattle.spec_spline.specs.Build.{weights, space_weights, built}
 use Rattle.base_outcome.proofs.Outcome.{then_breaks, Broken, first-refuses, second-refuses}
@@ -31,7 +31,7 @@ Any q = T true
 jumps_any : (join : ℕ) (r : Row) (s : ℚ) (κ : List Entry) → Every (Good Any) (jump_tests join r s κ)
 unfolding jump_tests
 jumps_any join r s [] = nothing
-jumps_any join r s (e ∷ es) = more tt (more tt (jumps_any join r _ es))
+jumps_any join r s (e ∷ es) = more tt (more tt (jumps_any join r (s +ᵠ entry r e.column *ᵠ int e.condition) es))
 
 entries_any : (join : ℕ) (w v x y : ℚ) → Every (Good Any) (entry_tests join w v x y)
 unfolding entry_tests

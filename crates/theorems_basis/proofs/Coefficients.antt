@@ -39,7 +39,7 @@ none-after_nineteen s e ordinates n place h coefficients q = go (nineteen_misses
   where
     go : MissedCondition s ordinates → ⊥
     go M = M.missed (ap (λ o. pairing o (conditions s M.join M.order)) (sym q)
-        ∙ ((published_is_a_basis s e).combinations_meet coefficients).meets M.join M.order M.join-below M.Order-below)
+        ∙ ((published_is_a_basis s e).combinations_meet coefficients).meets M.join M.order M.join-below M.order_below)
 
 pub none-after_calls_with_nineteen : NoneAfterCallsWithNineteen
 none-after_calls_with_nineteen s ordinates num den coef_num coef_den place e coefficients q =

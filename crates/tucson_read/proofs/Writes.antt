@@ -135,7 +135,7 @@ abbrev pub Begins : Option Begun → Bool → ℤ → Type 0
 Begins none begun first = begun ≡ false
 Begins (some c) begun first = (begun ≡ true) × ((c.first_year ≡ first) × (nat_abs c.first_year < numeral_limit))
 
-pub record Writes (text names-end : List ℕ) (years-end : List ℤ) (Counts-end : List ℕ) (widths_end : List ℤ)
+pub record Writes (text names-end : List ℕ) (years-end : List ℤ) (counts_end : List ℕ) (widths_end : List ℤ)
     (names : List ℕ) (years : List ℤ) (counts : List ℕ) (widths : List ℤ) (from series start at : ℕ) (begun : Bool) (first : ℤ) : Type 0 where
   pub within : from ≤ length text
   pub place : ℕ
@@ -149,7 +149,7 @@ pub record Writes (text names-end : List ℕ) (years-end : List ℤ) (Counts-end
   pub all_so_far : all_widths (so_far series-begun) ≡ true
   pub names-left : names-end ≡ sets names (series * name_columns) (names_of rest)
   pub years-left : years-end ≡ sets years series (years_of rest)
-  pub counts-left : Counts-end ≡ sets counts series (counts_of rest)
+  pub counts-left : counts_end ≡ sets counts series (counts_of rest)
   pub widths_left : widths_end ≡ sets widths start (widths_of rest)
   pub names-room : series * name_columns + length (names_of rest) ≤ length names
   pub years_room : series + length rest ≤ length years
@@ -157,11 +157,11 @@ pub record Writes (text names-end : List ℕ) (years-end : List ℤ) (Counts-end
   pub widths_room : start + length (widths_of rest) ≤ length widths
 
 -- All that is to be written is.
-pub record Ended (names-end : List ℕ) (years-end : List ℤ) (Counts-end : List ℕ) (widths_end : List ℤ)
+pub record Ended (names-end : List ℕ) (years-end : List ℤ) (counts_end : List ℕ) (widths_end : List ℤ)
     (names : List ℕ) (years : List ℤ) (counts : List ℕ) (widths : List ℤ) : Type 0 where
   pub names_are : names ≡ names-end
   pub years_are : years ≡ years-end
-  pub counts_are : counts ≡ Counts-end
+  pub counts_are : counts ≡ counts_end
   pub widths_are : widths ≡ widths_end
 
 -- at the beginning all series are still to be written
@@ -213,9 +213,9 @@ first_small : (b : Option Begun) (begun : Bool) (first : ℤ) (l : Line) → Beg
 first_small none begun first l h k = k
 first_small (some c) begun first l h k = h.1.1
 
-module _ {text names-end : List ℕ} {years-end : List ℤ} {Counts-end : List ℕ} {widths_end : List ℤ}
+module _ {text names-end : List ℕ} {years-end : List ℤ} {counts_end : List ℕ} {widths_end : List ℤ}
     {names : List ℕ} {years : List ℤ} {counts : List ℕ} {widths : List ℤ} {from series start at : ℕ} {begun : Bool} {first : ℤ}
-    (now : Writes text names-end years-end Counts-end widths_end names years counts widths from series start at begun first) where
+    (now : Writes text names-end years-end counts_end widths_end names years counts widths from series start at begun first) where
   abbrev b : Option Begun
   b = now.series-begun
 
@@ -226,14 +226,14 @@ module _ {text names-end : List ℕ} {years-end : List ℤ} {Counts-end : List �
   pub years_kept : length years ≡ length years-end
   years_kept = sym (ap length now.years-left ∙ length-sets years series (years_of now.rest))
 
-  pub counts-kept : length counts ≡ length Counts-end
+  pub counts-kept : length counts ≡ length counts_end
   counts-kept = sym (ap length now.counts-left ∙ length-sets counts series (counts_of now.rest))
 
   pub widths_kept : length widths ≡ length widths_end
   widths_kept = sym (ap length now.widths_left ∙ length-sets widths start (widths_of now.rest))
 
   -- ---- at the end
-  pub writes_end : length text ≤ from → Ended names-end years-end Counts-end widths_end names years counts widths
+  pub writes_end : length text ≤ from → Ended names-end years-end counts_end widths_end names years counts widths
   unfolding read_lines lines_of names_of years_of counts_of widths_of
   writes_end h =
       let no_lines = ap (λ (u : Text). read_lines now.place b (lines_of u)) (drop_of_length-le text h) in
@@ -313,7 +313,7 @@ module _ {text names-end : List ℕ} {years-end : List ℤ} {Counts-end : List �
           kept = ap length is ∙ length-sets widths at m.line.fields
 
           pub writes_more : {since : ℤ} → since ≡ cond begun first year
-              → Writes text names-end years-end Counts-end widths_end names years counts new-widths (end + 1) series start (at + n) true since
+              → Writes text names-end years-end counts_end widths_end names years counts new-widths (end + 1) series start (at + n) true since
           writes_more e = record {
             within = omega (arith, g.ended);
             place = suc now.place;
@@ -464,7 +464,7 @@ module _ {text names-end : List ℕ} {years-end : List ℤ} {Counts-end : List �
             after_widths : start + length z.series.widths ≡ at + (n - 1)
             after_widths = omega (arith, series_length, ws_length, now.at_is)
 
-            pub writes-last : (any : ℤ) → Writes text names-end years-end Counts-end widths_end new-names new-years new-counts new-widths
+            pub writes-last : (any : ℤ) → Writes text names-end years-end counts_end widths_end new-names new-years new-counts new-widths
                 (end + 1) (series + 1) (at + (n - 1)) (at + (n - 1)) false any
             unfolding years_of counts_of all_widths
             writes-last any = record {

@@ -11,9 +11,9 @@ returns : tie.Need-returns
 unfolding value
 returns c =
     let s = c.before.before in
-    let f : SFits w64 s.args.a.num = record { sfits = c.struct_told.given.0.1 } in
-    let g : SFits w64 s.args.a.den = record { sfits = c.struct_told.given.1.0.1 } in
+    let f : SFits w64 s.args.a.num = record { sfits = c.struct_told-1.given.0.1 } in
+    let g : SFits w64 s.args.a.den = record { sfits = c.struct_told-1.given.1.0.1 } in
     simp to_z-of_z (ratio-below_one s.args.a.num s.args.a.den s.requires)
 
-pub is-below-one-spec : {M : Type 1} → statement M
-is-below-one-spec = tie.close (tie.spec returns)
+pub is_below_one_spec : {M : Type 1} → statement M
+is_below_one_spec = tie.close (tie.spec returns)

@@ -11,8 +11,8 @@ returns : tie.Need-returns
 unfolding value
 returns c =
     let s = c.before.before in
-    let f : SFits w64 s.args.a.num = record { sfits = c.struct_told.given.0.1 } in
+    let f : SFits w64 s.args.a.num = record { sfits = c.struct_told-1.given.0.1 } in
     simp to_z-of_z (ratio_positive s.args.a.num s.args.a.den s.requires)
 
-pub is-positive-spec : {M : Type 1} → statement M
-is-positive-spec = tie.close (tie.spec returns)
+pub is_positive_spec : {M : Type 1} → statement M
+is_positive_spec = tie.close (tie.spec returns)

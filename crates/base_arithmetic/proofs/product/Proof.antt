@@ -17,29 +17,29 @@ module _ (s : tie.Start) where
   nums = mul_fits s.args.a.num s.args.b.num s.requires.first.num_small s.requires.second.num_small
 
   dens : SFits w64 (s.args.a.den *ℤ s.args.b.den)
-  dens = mul_fits s.args.a.den s.args.b.den s.pre.first.den-small s.pre.second.den-small
+  dens = mul_fits s.args.a.den s.args.b.den s.requires.first.den-small s.requires.second.den-small
 
-abbrev start : tie.After-struct-told4 → tie.Start
+abbrev start : tie.After-struct_told-4-1 → tie.Start
 start c = c.before.before.before.before.before.before.before.before
 
-mul-checked : tie.Need-overflow-mul-checked
+mul-checked : tie.Need-overflow_mul-a
 mul-checked c =
     let s = c.before.before.before.before in let p = s.requires in simp (words, p.first, p.second) (nums s)
 
-mul-checked-2 : tie.Need-overflow-mul-checked-2
-mul-checked-2 c = let s = start c in let p = s.pre in simp (words, p.first, p.second) (dens s)
+mul-checked-2 : tie.Need-overflow_mul-a-2
+mul-checked-2 c = let s = start c in let p = s.requires in simp (words, p.first, p.second) (dens s)
 
 checked-requires : tie.Need-checked-requires
 checked-requires c κs =
-    let s = start c in let p = s.pre in
+    let s = start c in let p = s.requires in
     simp (words, p.first, p.second, dens s) (*_pos_< _ _ p.first.den_pos p.second.den_pos)
 
 returns : tie.Need-returns
 unfolding value
 returns c =
-    let s = start c.before in let p = s.pre in
+    let s = start c.before in let p = s.requires in
     (simp (words, p.first, p.second, nums s, dens s) at c.checked.ensures)
     ∙ ap (λ q. answer (count q)) (ratio_mul _ _ _ _ p.first.den_pos p.second.den_pos)
 
-pub product-spec : {M : Type 1} → statement M
-product-spec = tie.close (tie.spec mul-checked mul-checked-2 checked-requires returns)
+pub product_spec : {M : Type 1} → statement M
+product_spec = tie.close (tie.spec mul-checked mul-checked-2 checked-requires returns)

@@ -22,69 +22,69 @@ module _ (s : tie.Start) where
   d = s.args.a.den *ℤ s.args.b.num
 
   n_fits : SFits w64 n
-  n_fits = mul_fits s.args.a.num s.args.b.den s.pre.first.num_small s.pre.second.den-small
+  n_fits = mul_fits s.args.a.num s.args.b.den s.requires.first.num_small s.requires.second.den-small
 
   d_fits : SFits w64 d
-  d_fits = mul_fits s.args.a.den s.args.b.num s.pre.first.den-small s.pre.second.num_small
+  d_fits = mul_fits s.args.a.den s.args.b.num s.requires.first.den-small s.requires.second.num_small
 
   turned_n : SFits w64 (pos 0 -ℤ n)
-  turned_n = zero_sub_mul_fits s.args.a.num s.args.b.den s.pre.first.num_small s.pre.second.den-small
+  turned_n = zero_sub_mul_fits s.args.a.num s.args.b.den s.requires.first.num_small s.requires.second.den-small
 
   turned_d : SFits w64 (pos 0 -ℤ d)
-  turned_d = zero_sub_mul_fits s.args.a.den s.args.b.num s.pre.first.den-small s.pre.second.num_small
+  turned_d = zero_sub_mul_fits s.args.a.den s.args.b.num s.requires.first.den-small s.requires.second.num_small
 
-abbrev start : tie.After-struct-told4 → tie.Start
+abbrev start : tie.After-struct_told-4-1 → tie.Start
 start c = c.before.before.before.before.before.before.before.before
 
-mul-n : tie.Need-overflow-mul-n
+mul-n : tie.Need-overflow_mul-n
 mul-n c =
     let s = c.before.before.before.before in let p = s.requires in simp (words, p.first, p.second) (n_fits s)
 
-mul-d : tie.Need-overflow-mul-d
-mul-d c = let s = start c in let p = s.pre in simp (words, p.first, p.second) (d_fits s)
+mul-d : tie.Need-overflow_mul-d
+mul-d c = let s = start c in let p = s.requires in simp (words, p.first, p.second) (d_fits s)
 
-sub-checked : tie.Need-overflow-sub-checked
+sub-checked : tie.Need-overflow_sub-n
 sub-checked c =
-    let s = start c.before in let p = s.pre in simp (words, p.first, p.second, n_fits s) (turned_n s)
+    let s = start c.before in let p = s.requires in simp (words, p.first, p.second, n_fits s) (turned_n s)
 
-sub-checked-2 : tie.Need-overflow-sub-checked-2
+sub-checked-2 : tie.Need-overflow_sub-d
 sub-checked-2 c =
-    let s = start c.before in let p = s.pre in simp (words, p.first, p.second, d_fits s) (turned_d s)
+    let s = start c.before in let p = s.requires in simp (words, p.first, p.second, d_fits s) (turned_d s)
 
 -- what the test says of the new denominator, which is not zero
-below : (c : tie.Then1) → pos 0 <ℤ (pos 0 -ℤ d (start c.before))
+below : (c : tie.Then-d-lt0) → pos 0 <ℤ (pos 0 -ℤ d (start c.before))
 below c =
-    let s = start c.before in let p = s.pre in
-    zero_sub_pos (d s) (lt_z_true (d s) (pos 0) (simp (words, p.first, p.second, d_fits s) at c.if1.true))
+    let s = start c.before in let p = s.requires in
+    zero_sub_pos (d s) (lt_z_true (d s) (pos 0) (simp (words, p.first, p.second, d_fits s) at c.if-d-lt0.true))
 
-above : (c : tie.Else1) → pos 0 <ℤ d (start c.before)
+above : (c : tie.Else-d-lt0) → pos 0 <ℤ d (start c.before)
 above c =
-    let s = start c.before in let p = s.pre in
+    let s = start c.before in let p = s.requires in
     *_nonzero_pos _ _ p.first.den_pos p.divisor_nonzero
-    (lt_z_false (d s) (pos 0) (simp (words, p.first, p.second, d_fits s) at c.if1.false))
+    (lt_z_false (d s) (pos 0) (simp (words, p.first, p.second, d_fits s) at c.if-d-lt0.false))
 
 checked-requires : tie.Need-checked-requires
 checked-requires c κs =
-    let s = start c.before in let p = s.pre in
+    let s = start c.before in let p = s.requires in
     simp (words, p.first, p.second, d_fits s, turned_d s) (below c)
 
-returns : tie.Need-returns
+returns : tie.Need-returns-then-d-lt0
 unfolding value
 returns c =
-    let s = start c.before.before in let p = s.pre in
+    let s = start c.before.before in let p = s.requires in
     (simp (words, p.first, p.second, n_fits s, d_fits s, turned_n s, turned_d s) at c.checked.ensures)
     ∙ ap (λ q. answer (count q)) (ratio_div_below _ _ _ _ p.first.den_pos p.second.den_pos p.divisor_nonzero (below c.before))
 
 checked-requires-2 : tie.Need-checked-requires-2
 checked-requires-2 c κs =
-    let s = start c.before in let p = s.pre in simp (words, p.first, p.second, d_fits s) (above c)
+    let s = start c.before in let p = s.requires in simp (words, p.first, p.second, d_fits s) (above c)
 
-returns-2 : tie.Need-returns-2
+returns-2 : tie.Need-returns
 unfolding value
 returns-2 c =
-    let s = start c.before.before in let p = s.pre in
-    (simp (words, p.first, p.second, n_fits s, d_fits s) at c.checked2.ensures)
+    let s = start c.before.before in let p = s.requires in
+    (simp (words, p.first, p.second, n_fits s, d_fits s) at c.checked-2.ensures)
     ∙ ap (λ q. answer (count q)) (ratio_div_above _ _ _ _ p.first.den_pos p.second.den_pos p.divisor_nonzero (above c.before))
 
-pub quotient-spec : {M : Type 1} → statement M
-quotient-spec = tie.close (tie.spec mul-n mul-d sub-checked sub-checked-2 checked-requires returns checked-requires-2 returns-2)
+pub quotient_spec : {M : Type 1} → statement M
+quotient_spec = tie.close (tie.spec mul-n mul-d sub-checked sub-checked-2 checked-requires returns checked-requires-2 returns-2)

@@ -48,11 +48,11 @@ returns c =
     let h = double_fits s in
     let k = dividend_fits s in
     let l = divisor_fits s in
-    let r : SFits w64 c.floor-div.result = record { sfits = c.floor-div.type-inv } in
-    simp to_z-of_z ((simp to_z-of_z at c.floor-div.ensures) ∙ floor-nearest s.args.a s.args.d (positive s))
+    let r : SFits w64 c.floor_div.result = record { sfits = c.floor_div.type_inv } in
+    simp to_z-of_z ((simp to_z-of_z at c.floor_div.ensures) ∙ floor-nearest s.args.a s.args.d (positive s))
 
-pub round-div-spec : {M : Type 1} → statement M
-round-div-spec =
+pub round_div_spec : {M : Type 1} → statement M
+round_div_spec =
     tie.close (tie.spec (λ c. let f = c.ranges.a in simp to_z-of_z (double_fits c))
     (λ c. let f = c.ranges.a in let g = c.ranges.d in let h = double_fits c in simp to_z-of_z (dividend_fits c))
     (λ c. let g = c.ranges.d in simp to_z-of_z (divisor_fits c))

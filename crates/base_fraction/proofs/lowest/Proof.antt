@@ -17,7 +17,7 @@ use Rattle.base_fraction.specs.Machine.{fraction, ratio}
 use Rattle.base_fraction.proofs.lowest.Statement.{statement}
 use Rattle.base_fraction.proofs.lowest.Tie as tie
 
-cast-gcd : tie.Need-overflow-cast-gcd
+cast-gcd : tie.Need-overflow_cast-d
 cast-gcd c =
     let f = c.before.ranges.d in
     simp to_z-of_z (
@@ -25,7 +25,7 @@ cast-gcd c =
       omega (arith, nat_abs-le c.before.args.d f.sfits),
     )
 
-module _ (c : tie.After-gcd) where
+module _ (c : tie.After-gcd-g) where
   abbrev n : ℤ
   n = c.before.before.args.n
 
@@ -33,13 +33,13 @@ module _ (c : tie.After-gcd) where
   d = c.before.before.args.d
 
   abbrev g : ℕ
-  g = c.gcd.result
+  g = c.gcd-g.result
 
   g_is : g ≡ gcd (nat_abs n) (nat_abs d)
   g_is =
       let f = c.before.before.ranges.d in
       let k = c.before.before.ranges.n in
-      (simp to_z-of_z at c.gcd.ensures) ∙ ap (λ (x : ℕ). gcd x (nat_abs d)) (simp to_z-of_z at c.before.magnitude.ensures)
+      (simp to_z-of_z at c.gcd-g.ensures) ∙ ap (λ (x : ℕ). gcd x (nat_abs d)) (simp to_z-of_z at c.before.magnitude.ensures)
 
   d_pos : 0 < nat_abs d
   d_pos = (pos_of d c.before.before.requires).1
@@ -66,17 +66,17 @@ module _ (c : tie.After-gcd) where
   lowest_terms : record { num = quot_z n (pos g); den = quot_z d (pos g) } ≡ fraction (ratio n d)
   lowest_terms = fraction-ratio n d g c.before.before.requires g_is
 
-div-t7 : tie.Need-nonzero-div-t7
-div-t7 c = (g_pos c, simp (to_z-of_z, to_z_pos w64 c.gcd.result (g_small c), c.before.before.ranges.n) (num_fits c))
+div-t7 : tie.Need-nonzero_div-result
+div-t7 c = (g_pos c, simp (to_z-of_z, to_z_pos w64 c.gcd-g.result (g_small c), c.before.before.ranges.n) (num_fits c))
 
-div-t8 : tie.Need-nonzero-div-t8
-div-t8 c = (g_pos c, simp (to_z-of_z, to_z_pos w64 c.gcd.result (g_small c), c.before.before.ranges.d) (den-fits c))
+div-t8 : tie.Need-nonzero_div-result-2
+div-t8 c = (g_pos c, simp (to_z-of_z, to_z_pos w64 c.gcd-g.result (g_small c), c.before.before.ranges.d) (den-fits c))
 
 returns : tie.Need-returns
 returns c =
-    simp (to_z-of_z, to_z_pos w64 c.gcd.result (g_small c), c.before.before.ranges.n, c.before.before.ranges.d, num_fits c, den-fits c)
+    simp (to_z-of_z, to_z_pos w64 c.gcd-g.result (g_small c), c.before.before.ranges.n, c.before.before.ranges.d, num_fits c, den-fits c)
     (lowest_terms c)
 
-pub lowest-spec : {M : Type 1} → statement M
-lowest-spec =
+pub lowest_spec : {M : Type 1} → statement M
+lowest_spec =
     tie.close (tie.spec (λ c κs. search rules) cast-gcd (λ c κs. search rules) (λ c. record { sfits = g_small c }) div-t7 div-t8 returns)

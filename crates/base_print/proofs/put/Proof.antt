@@ -9,7 +9,7 @@ use Rattle.base_print.proofs.put.Tie as tie
 
 returns : tie.Need-returns
 returns c = record {
-  contents = ⊎_elim (λ w. w.1 ∙ written_byte _ _ _) (λ w. w.1 ∙ written-byte-past _ _ _ w.0.left) c.if1.branch;
+  contents = ⊎_elim (λ w. w.out-is ∙ written_byte _ _ _) (λ w. w.out-is ∙ written-byte-past _ _ _ w.if-at-out.false) c.if-at-out.branch-raw;
   behind = search rules;
   near = search rules;
 }
@@ -17,4 +17,4 @@ returns c = record {
 pub put_spec : {M : Type 1} → statement M
 put_spec =
     tie.close (tie.spec (λ c. search rules) (λ c. search rules)
-    (λ c. ⊎_elim (λ w. ap length w.1 ∙ simp length-set) (λ w. ap length w.1) c.if1.branch) returns)
+    (λ c. ⊎_elim (λ w. ap length w.out-is ∙ simp length-set) (λ w. ap length w.out-is) c.if-at-out.branch-raw) returns)

@@ -16,27 +16,27 @@ use Rattle.base_print.proofs.Buffer.{puts_then, puts_within, puts_as}
 use Rattle.base_print.proofs.put_decimal.Statement.{statement}
 use Rattle.base_print.proofs.put_decimal.Tie as tie
 
-returns : tie.Need-returns
+returns : tie.Need-returns-then-z-lt0
 returns c =
     let d = c.before.before.before.before.before.before in
     let m = d.before.before.before in
     let s = m.before.before in
     let f : SFits w64 s.args.z = s.ranges.z in
-    let below : lt_z s.args.z (pos 0) ≡ true = simp to_z-of_z at d.before.before.if1.true in
-    let size : m.magnitude.result ≡ nat_abs s.args.z = simp to_z-of_z at m.magnitude.ensures in
+    let below : lt_z s.args.z (pos 0) ≡ true = simp to_z-of_z at d.before.before.if-z-lt0.true in
+    let size : m.magnitude-size.result ≡ nat_abs s.args.z = simp to_z-of_z at m.magnitude-size.ensures in
     puts_as (ap (λ k. minus ∷ digits k) size ∙ sym (decimal_negative s.args.z (lt_z_true _ _ below)))
-    (puts_within (omega arith) (puts_then d.put.ensures c.before.before.put-digits.ensures))
+    (puts_within (omega arith) (puts_then d.put-next.ensures c.before.before.put_digits.ensures))
 
-returns-2 : tie.Need-returns-2
+returns-2 : tie.Need-returns
 returns-2 c =
     let m = c.before.before.before.before.before in
     let s = m.before.before in
     let f : SFits w64 s.args.z = s.ranges.z in
-    let natural : lt_z s.args.z (pos 0) ≡ false = simp to_z-of_z at c.before.before.before.before.if1.false in
-    let size : m.magnitude.result ≡ nat_abs s.args.z = simp to_z-of_z at m.magnitude.ensures in
-    puts_as (ap digits size ∙ sym (decimal_natural s.args.z (lt_z_false _ _ natural))) (puts_within (omega arith) c.before.before.put-digits2.ensures)
+    let natural : lt_z s.args.z (pos 0) ≡ false = simp to_z-of_z at c.before.before.before.before.if-z-lt0.false in
+    let size : m.magnitude-size.result ≡ nat_abs s.args.z = simp to_z-of_z at m.magnitude-size.ensures in
+    puts_as (ap digits size ∙ sym (decimal_natural s.args.z (lt_z_false _ _ natural))) (puts_within (omega arith) c.before.before.put_digits-2.ensures)
 
-pub put-decimal-spec : {M : Type 1} → statement M
-put-decimal-spec =
+pub put_decimal_spec : {M : Type 1} → statement M
+put_decimal_spec =
     tie.close (tie.spec (λ c κs. search rules) (λ c κs. search rules) (λ c κs. search rules) (λ c. search rules) returns
     (λ c κs. search rules) (λ c. search rules) returns-2)

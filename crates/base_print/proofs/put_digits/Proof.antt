@@ -19,25 +19,25 @@ record Inv (out₀ : List ℕ) (at n count : ℕ) (out : List ℕ) (rest i : ℕ
   digits_are : last_digits i rest ++ behind ≡ digits n
   out_is : out ≡ written (at + i) behind out₀
 
-abbrev invariant-loop : tie.invariant-loop
+abbrev invariant-loop : tie.invariant-loop-i
 invariant-loop out₀ at n count rest₀ i₀ out rest i = Inv out₀ at n count out rest i
 
-abbrev decreases-loop : tie.decreases-loop
+abbrev decreases-loop : tie.decreases-loop-i
 decreases-loop out₀ at n count rest₀ i₀ out rest i = i
 
-loop-holds : tie.Need-loop-init invariant-loop decreases-loop
+loop-holds : tie.Need-loop-i-init invariant-loop decreases-loop
 loop-holds c =
     let n = c.before.before.args.n in
     record {
       within = omega arith;
       behind = [];
-      digits_are = append-nil _ ∙ ap (λ k. last_digits k n) c.digit-count.ensures.0 ∙ sym (digits_last n);
+      digits_are = append-nil _ ∙ ap (λ k. last_digits k n) c.digit_count-count.ensures.0 ∙ sym (digits_last n);
       out_is = written_none _ _;
     }
 
-loop-again : tie.Need-loop-preserved invariant-loop decreases-loop
+loop-again : tie.Need-loop-i-preserved invariant-loop decreases-loop
 loop-again c =
-    let l = c.before.before.before.before.before.loop in
+    let l = c.before.before.before.before.before.loop-i in
     let v = l.invariant in
     let a = c.before.before.before.before.before.before.before.before.args in
     record {
@@ -57,7 +57,7 @@ loop-again c =
 returns : tie.Need-returns invariant-loop decreases-loop
 unfolding last_digits
 returns c =
-    let l = c.before.loop in
+    let l = c.before.loop-i in
     let v = l.invariant in
     let a = c.before.before.before.before.args in
     let none_left : l.i ≡ 0 = omega arith in
@@ -70,8 +70,8 @@ returns c =
       near = omega arith;
     }
 
-pub put-digits-spec : {M : Type 1} → statement M
-put-digits-spec =
+pub put_digits_spec : {M : Type 1} → statement M
+put_digits_spec =
     tie.close (tie.spec invariant-loop decreases-loop (λ c κs. tt) loop-holds (λ c. omega arith) (λ c. omega arith) (λ c. omega arith) (λ c. omega arith)
     (λ c κs. omega arith) (λ c. omega arith) loop-again (λ c. omega arith)
-    (λ c. ap length c.before.loop.invariant.out_is ∙ written_length _ _ _) returns)
+    (λ c. ap length c.before.loop-i.invariant.out_is ∙ written_length _ _ _) returns)

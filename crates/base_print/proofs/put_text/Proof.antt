@@ -14,28 +14,28 @@ record Inv (out₀ : List ℕ) (at : ℕ) (text out : List ℕ) (next i : ℕ) :
   within : i ≤ length text
   put : Puts i at (take i text) out₀ out next
 
-abbrev invariant-loop : tie.invariant-loop
+abbrev invariant-loop : tie.invariant-loop-i
 invariant-loop out₀ at text next₀ i₀ out next i = Inv out₀ at text out next i
 
-abbrev decreases-loop : tie.decreases-loop
+abbrev decreases-loop : tie.decreases-loop-i
 decreases-loop out₀ at text next₀ i₀ out next i = length text - i
 
-loop-again : tie.Need-loop-preserved invariant-loop decreases-loop
+loop-again : tie.Need-loop-i-preserved invariant-loop decreases-loop
 loop-again c =
-    let l = c.before.before.before.before.before.before.loop in
+    let l = c.before.before.before.before.before.before.loop-i in
     let text = c.before.before.before.before.before.before.before.before.before.args.text.now in
     record {
       within = omega arith;
-      put = rw (add-one, take-suc text l.i 0 (omega arith)) (puts_within (omega arith) (puts_then l.invariant.put c.before.before.put.ensures));
+      put = rw (add-one, take-suc text l.i 0 (omega arith)) (puts_within (omega arith) (puts_then l.invariant.put c.before.before.put-next.ensures));
     }
 
 returns : tie.Need-returns invariant-loop decreases-loop
 returns c =
-    let l = c.before.loop in
+    let l = c.before.loop-i in
     let text = c.before.before.before.before.args.text.now in
     rw (take_all l.i text (omega arith)) at (puts_within l.invariant.within l.invariant.put)
 
-pub put-text-spec : {M : Type 1} → statement M
-put-text-spec =
+pub put_text_spec : {M : Type 1} → statement M
+put_text_spec =
     tie.close (tie.spec invariant-loop decreases-loop (λ c. record { within = omega arith; put = puts_none _ _ }) (λ c. omega arith) (λ c κs. omega arith)
-    (λ c. omega arith) (λ c. omega arith) loop-again (λ c. puts_length c.before.loop.invariant.put) returns)
+    (λ c. omega arith) (λ c. omega arith) loop-again (λ c. puts_length c.before.loop-i.invariant.put) returns)

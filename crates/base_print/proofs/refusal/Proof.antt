@@ -16,14 +16,14 @@ returns c =
     let a = b.before.before.before.before in
     let k = a.before.before.before.before in
     let p =
-    puts_then k.put-text.ensures
-    (puts_then a.put-digits.ensures
-    (puts_then b.put.ensures
-    (puts_then d.put-digits2.ensures
-    e.put2.ensures))) in
+    puts_then k.put_text-a.ensures
+    (puts_then a.put_digits-b.ensures
+    (puts_then b.put-c.ensures
+    (puts_then d.put_digits-d.ensures
+    e.put.ensures))) in
     record { count_is = p.behind ∙ omega arith; contents = p.contents; few = omega (arith, p.near) }
 
-pub refusal-spec : {M : Type 1} → statement M
-refusal-spec =
-    tie.close (tie.spec (λ c. search rules) (λ c κs. search rules) (λ c κs. search rules) (λ c κs. search rules) (λ c κs. search rules)
+pub refusal_spec : {M : Type 1} → statement M
+refusal_spec =
+    tie.close (tie.spec (λ c κs. search rules) (λ c κs. search rules) (λ c κs. search rules) (λ c κs. search rules)
     (λ c κs. search rules) (λ c. search rules) returns)

@@ -19,15 +19,15 @@ record Inv (before cells : List ℤ) (value : ℤ) (from to k : ℕ) : Type 0 wh
   is : cells ≡ filled from k value before
   long : length cells ≡ length before
 
-abbrev invariant-loop : tie.invariant-loop
+abbrev invariant-loop : tie.invariant-loop-k
 invariant-loop cells₀ value from to k₀ cells k = Inv cells₀ cells (to_z w64 value) from to k
 
-abbrev decreases-loop : tie.decreases-loop
+abbrev decreases-loop : tie.decreases-loop-k
 decreases-loop cells₀ value from to k₀ cells k = to - k
 
-loop-again : tie.Need-loop-preserved invariant-loop decreases-loop
+loop-again : tie.Need-loop-k-preserved invariant-loop decreases-loop
 loop-again c =
-    let l = c.before.loop in
+    let l = c.before.loop-k in
     let v = l.invariant in
     record {
       passed = omega arith;
@@ -39,12 +39,12 @@ loop-again c =
 returns : tie.Need-returns invariant-loop decreases-loop
 returns c =
     let s = c.before.before.args in
-    let v = c.before.loop.invariant in
-    let e : c.before.loop.k ≡ s.to = omega arith in
+    let v = c.before.loop-k.invariant in
+    let e : c.before.loop-k.k ≡ s.to = omega arith in
     let f = c.before.before.ranges.value in
     (simp to_z-of_z at v.is) ∙ ap (λ (k : ℕ). filled s.from k s.value s.cells.now) e
 
 pub fill_spec : {M : Type 1} → statement M
 fill_spec =
     tie.close (tie.spec invariant-loop decreases-loop (λ c. record { passed = omega arith; within = c.requires.0; is = filled_none _ _ _; long = refl })
-    (λ c. omega arith) (λ c. omega arith) (λ c. omega arith) (λ c. omega arith) loop-again (λ c. c.before.loop.invariant.long) returns)
+    (λ c. omega arith) (λ c. omega arith) (λ c. omega arith) (λ c. omega arith) loop-again (λ c. c.before.loop-k.invariant.long) returns)

@@ -41,40 +41,40 @@ scaled_small r {k = k} f q =
       omega (arith, ap nat_abs q.right_is, div-le_self (right_scale s j k) (divisor s j k), scale_le (degree s (suc j)) k (width s j) f.right-degree f.order f.left-short),
     )
 
-abbrev invariant-loop : tie.invariant-loop
+abbrev invariant-loop : tie.invariant-loop-e
 invariant-loop k s values₀ count e₀ values e = (e ≤ 2 * k + 2) × (values ≡ filled s k e)
 
-abbrev decreases-loop : tie.decreases-loop
+abbrev decreases-loop : tie.decreases-loop-e
 decreases-loop k s values₀ count e₀ values e = 2 * k + 2 - e
 
-entry-requires : tie.Need-entry-requires invariant-loop decreases-loop
+entry-requires : tie.Need-entry-x-requires invariant-loop decreases-loop
 entry-requires c κs =
-    let b = c.before.before in
-    let f = b.before.requires in
-    let z = scaled_small b.scales.result f (b.scales.ensures f.space f.index f.is) in
+    let b = c in
+    let f = b.requires in
+    let z = scaled_small b.scales-s.result f (b.scales-s.ensures f.space f.index f.is) in
     record { left-small = z.0; right-small = z.1; order = f.order; within = omega arith }
 
-loop-again : tie.Need-loop-preserved invariant-loop decreases-loop
+loop-again : tie.Need-loop-e-preserved invariant-loop decreases-loop
 loop-again c =
-    let b = c.before.before in
-    let r = b.before.scales.result in
-    let k = b.before.before.args.k in
-    let f : SFits w64 c.entry.result = record { sfits = c.entry.type-inv } in (
+    let b = c in
+    let r = b.scales-s.result in
+    let k = b.args.k in
+    let f : SFits w64 c.entry-x.result = record { sfits = c.entry-x.type_inv } in (
       omega arith,
       simp to_z-of_z (
-          ap₂ (λ (l : List ℤ) (z : ℤ). set l b.loop.e z) b.loop.invariant.1 c.entry.ensures
-          ∙ tab_more (scale_of r.left r.right k) b.loop.e (replicate 6 (pos 0)) (omega arith)),
+          ap₂ (λ (l : List ℤ) (z : ℤ). set l b.loop-e.e z) b.loop-e.invariant.1 c.entry-x.ensures
+          ∙ tab_more (scale_of r.left r.right k) b.loop-e.e (replicate 6 (pos 0)) (omega arith)),
     )
 
 returns : tie.Need-returns invariant-loop decreases-loop
 returns c = λ s j i.
-    let b = c.before.before in
-    let k = b.before.args.k in
-    let e : c.before.loop.e ≡ 2 * k + 2 = omega arith in
-    c.before.loop.invariant.1 ∙ ap (filled b.scales.result k) e
-    ∙ all-filled b.scales.result s j k b.before.requires.order (b.scales.ensures s j i)
+    let b = c in
+    let k = b.args.k in
+    let e : c.loop-e.e ≡ 2 * k + 2 = omega arith in
+    c.loop-e.invariant.1 ∙ ap (filled b.scales-s.result k) e
+    ∙ all-filled b.scales-s.result s j k b.requires.order (b.scales-s.ensures s j i)
 
-pub entries-spec : {M : Type 1} → statement M
-entries-spec =
+pub entries_spec : {M : Type 1} → statement M
+entries_spec =
     tie.close (tie.spec invariant-loop decreases-loop (λ c κs. search rules) (λ c. omega arith) (λ c. omega arith) (λ c. (omega arith, tab-none _ _))
     entry-requires (λ c. omega arith) (λ c. omega arith) (λ c. omega arith) (λ c. omega arith) loop-again returns)

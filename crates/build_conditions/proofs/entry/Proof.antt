@@ -16,47 +16,47 @@ use Rattle.build_conditions.proofs.entry.Tie as tie
 term-abs : (z u : ℤ) (k t : ℕ) → nat_abs z < 2 ^ 31 → k ≤ 2 → u ≡ signed_binomial k t → nat_abs (z *ℤ u) ≤ 2 ^ 33
 term-abs z u k t h l e = rw e (abs_mul_le z (signed_binomial k t) (2 ^ 31) 4 (le_of_lt h) (signed-binomial_le k t l))
 
-module _ (c : tie.After-struct-told) where
+module _ (c : tie.After-struct_told-1) where
   abbrev left : ℤ
-  left = c.before.before.before.before.args.sides.left
+  left = c.args.sides.left
 
   abbrev b : ℤ
-  b = c.before.before.signed-binomial.result
+  b = c.signed_binomial-b.result
 
   left-fits : SFits w64 left
-  left-fits = sfits_abs (omega (arith, c.before.before.before.before.requires.left-small))
+  left-fits = sfits_abs (omega (arith, c.requires.left-small))
 
   b_fits : SFits w64 b
-  b_fits = record { sfits = c.before.before.signed-binomial.type-inv }
+  b_fits = record { sfits = c.signed_binomial-b.type_inv }
 
   term_fits : SFits w64 (left *ℤ b)
   term_fits =
-      let s = c.before.before.before.before in
-      sfits_abs (omega (arith, term-abs left b s.args.k s.args.e s.requires.left-small s.requires.order c.before.before.signed-binomial.ensures))
+      let s = c in
+      sfits_abs (omega (arith, term-abs left b s.args.k s.args.e s.requires.left-small s.requires.order c.signed_binomial-b.ensures))
 
-returns : tie.Need-returns
+returns : tie.Need-returns-then-e-k
 returns c =
-    let a = c.before.before.before.before.args in
+    let a = c.args in
     simp (to_z-of_z, left-fits c, b_fits c, term_fits c)
-    (ap (λ (z : ℤ). a.sides.left *ℤ z) c.before.before.signed-binomial.ensures ∙ sym (scale-left a.sides.left a.sides.right a.k a.e (omega arith)))
+    (ap (λ (z : ℤ). a.sides.left *ℤ z) c.signed_binomial-b.ensures ∙ sym (scale-left a.sides.left a.sides.right a.k a.e (omega arith)))
 
-module _ (c : tie.After-struct-told2) where
+module _ (c : tie.After-struct_told-2-1) where
   abbrev right : ℤ
-  right = c.before.before.before.before.args.sides.right
+  right = c.args.sides.right
 
   abbrev d : ℤ
-  d = c.before.before.signed-binomial2.result
+  d = c.signed_binomial-c.result
 
   right-fits : SFits w64 right
-  right-fits = sfits_abs (omega (arith, c.before.before.before.before.requires.right-small))
+  right-fits = sfits_abs (omega (arith, c.requires.right-small))
 
   d_fits : SFits w64 d
-  d_fits = record { sfits = c.before.before.signed-binomial2.type-inv }
+  d_fits = record { sfits = c.signed_binomial-c.type_inv }
 
   size : nat_abs (right *ℤ d) ≤ 2 ^ 33
   size =
-      let s = c.before.before.before.before in
-      term-abs right d s.args.k (s.args.e - s.args.k - 1) s.requires.right-small s.requires.order c.before.before.signed-binomial2.ensures
+      let s = c in
+      term-abs right d s.args.k (s.args.e - s.args.k - 1) s.requires.right-small s.requires.order c.signed_binomial-c.ensures
 
   product-fits : SFits w64 (right *ℤ d)
   product-fits = sfits_abs (omega (arith, size))
@@ -64,17 +64,17 @@ module _ (c : tie.After-struct-told2) where
   negated_fits : SFits w64 (pos 0 -ℤ right *ℤ d)
   negated_fits = sfits_abs (omega (arith, size, abs_sub (pos 0) (right *ℤ d)))
 
-sub-result : tie.Need-overflow-sub-result
+sub-result : tie.Need-overflow_sub-result
 sub-result c =
     simp (to_z-of_z, right-fits c, d_fits c, product-fits c)
     (sfits_abs (omega (arith, size c, abs_sub (pos 0) (right c *ℤ d c), abs_sub (right c *ℤ d c) (pos 0))))
 
-returns-2 : tie.Need-returns-2
+returns-2 : tie.Need-returns
 returns-2 c =
-    let a = c.before.before.before.before.args in
+    let a = c.args in
     simp (to_z-of_z, right-fits c, d_fits c, product-fits c, negated_fits c) (
     +ℤ_idl (neg_ℤ (right c *ℤ d c))
-    ∙ ap (λ (z : ℤ). neg_ℤ (right c *ℤ z)) c.before.before.signed-binomial2.ensures
+    ∙ ap (λ (z : ℤ). neg_ℤ (right c *ℤ z)) c.signed_binomial-c.ensures
     ∙ sym (scale-right a.sides.left a.sides.right a.k a.e (omega arith)))
 
 pub entry_spec : {M : Type 1} → statement M

@@ -63,56 +63,56 @@ module _ (c : tie.Start) where
     ap₂ (λ p n. scale p c.args.k n) i.right_is.degree_is (ap nat_abs i.left_is.length_is),
   )
 
-scale-requires : tie.Need-scale-requires
+scale-requires : tie.Need-scale-left-requires
 scale-requires c κs =
     let l = left_length c.before.before.before in
     let r = right_length c.before.before.before in
     simp (to_z-of_z, l.fits, r.fits) (search rules)
 
-scale-requires-2 : tie.Need-scale-requires-2
+scale-requires-2 : tie.Need-scale-right-requires
 scale-requires-2 c κs =
-    let s = c.before.before.before.before.before in let l = left_length s in
-    let r = right_length s in
+    let s = c in let l = left_length s.before.before.before.before.before in
+    let r = right_length s.before.before.before.before.before in
     simp (to_z-of_z, l.fits, r.fits) (search rules)
 
-module _ (c : tie.After-scale2) where
+module _ (c : tie.After-scale-right) where
   abbrev start : tie.Start
   start = c.before.before.before.before.before.before
 
-  left_is : c.before.before.scale.result ≡ pos (a start)
-  left_is = simp (to_z-of_z, (left_length start).fits, (right_length start).fits) at c.before.before.scale.ensures
+  left_is : c.scale-left.result ≡ pos (a start)
+  left_is = simp (to_z-of_z, (left_length start).fits, (right_length start).fits) at c.scale-left.ensures
 
-  right_is : c.scale2.result ≡ pos (b start)
-  right_is = simp (to_z-of_z, (left_length start).fits, (right_length start).fits) at c.scale2.ensures
+  right_is : c.scale-right.result ≡ pos (b start)
+  right_is = simp (to_z-of_z, (left_length start).fits, (right_length start).fits) at c.scale-right.ensures
 
-  left_word : SFits w64 c.before.before.scale.result
-  left_word = record { sfits = c.before.before.scale.type-inv }
+  left_word : SFits w64 c.scale-left.result
+  left_word = record { sfits = c.scale-left.type_inv }
 
-  right-word : SFits w64 c.scale2.result
-  right-word = record { sfits = c.scale2.type-inv }
+  right-word : SFits w64 c.scale-right.result
+  right-word = record { sfits = c.scale-right.type_inv }
 
-  left-cast : T (non_neg c.before.before.scale.result) × Fits w64 (nat_abs c.before.before.scale.result)
+  left-cast : T (non_neg c.scale-left.result) × Fits w64 (nat_abs c.scale-left.result)
   left-cast = rw left_is (tt, omega (arith, a_le start))
 
-  right-cast : T (non_neg c.scale2.result) × Fits w64 (nat_abs c.scale2.result)
+  right-cast : T (non_neg c.scale-right.result) × Fits w64 (nat_abs c.scale-right.result)
   right-cast = rw right_is (tt, omega (arith, b_le start))
 
-cast-gcd : tie.Need-overflow-cast-gcd
+cast-gcd : tie.Need-overflow_cast-left
 cast-gcd c = simp (to_z-of_z, left_word c, right-word c) (left-cast c)
 
-cast-gcd-2 : tie.Need-overflow-cast-gcd-2
+cast-gcd-2 : tie.Need-overflow_cast-right
 cast-gcd-2 c = simp (to_z-of_z, left_word c, right-word c) (right-cast c)
 
-module _ (c : tie.After-gcd) where
+module _ (c : tie.After-gcd-divisor) where
   abbrev first : tie.Start
   first = start c.before
 
   abbrev g : ℕ
-  g = c.gcd.result
+  g = c.gcd-divisor.result
 
   g_is : g ≡ gcd (a first) (b first)
   g_is =
-      (simp (to_z-of_z, left_word c.before, right-word c.before) at c.gcd.ensures)
+      (simp (to_z-of_z, left_word c.before, right-word c.before) at c.gcd-divisor.ensures)
       ∙ ap₂ (λ x y. gcd (nat_abs x) (nat_abs y)) (left_is c.before) (right_is c.before)
 
   g_pos : 0 < g
@@ -121,33 +121,33 @@ module _ (c : tie.After-gcd) where
   g_small : g < 2 ^ 63
   g_small = omega (arith, g_is, gcd_le (a first) (b first) (b_pos first), b_le first)
 
-  left-quotient : SFits w64 (quot_z c.before.before.before.scale.result (pos g))
-  left-quotient = quot_fits w64 c.before.before.before.scale.result g g_pos (left_word c.before)
+  left-quotient : SFits w64 (quot_z c.scale-left.result (pos g))
+  left-quotient = quot_fits w64 c.scale-left.result g g_pos (left_word c.before)
 
-  right-quotient : SFits w64 (quot_z c.before.scale2.result (pos g))
-  right-quotient = quot_fits w64 c.before.scale2.result g g_pos (right-word c.before)
+  right-quotient : SFits w64 (quot_z c.scale-right.result (pos g))
+  right-quotient = quot_fits w64 c.scale-right.result g g_pos (right-word c.before)
 
-div-t11 : tie.Need-nonzero-div-t11
-div-t11 c = (omega (arith, g_pos c), simp (to_z-of_z, to_z_pos w64 c.gcd.result (g_small c), left_word c.before) (left-quotient c))
+div-t11 : tie.Need-nonzero_div-result
+div-t11 c = (omega (arith, g_pos c), simp (to_z-of_z, to_z_pos w64 c.gcd-divisor.result (g_small c), left_word c.before) (left-quotient c))
 
-div-t12 : tie.Need-nonzero-div-t12
+div-t12 : tie.Need-nonzero_div-result-2
 div-t12 c = (
   omega (arith, g_pos c),
-  simp (to_z-of_z, to_z_pos w64 c.gcd.result (g_small c), right-word c.before)
-      (quot_fits w64 c.before.scale2.result _ (omega (arith, g_pos c)) (right-word c.before)),
+  simp (to_z-of_z, to_z_pos w64 c.gcd-divisor.result (g_small c), right-word c.before)
+      (quot_fits w64 c.scale-right.result _ (omega (arith, g_pos c)) (right-word c.before)),
 )
 
 returns : tie.Need-returns
 returns c = λ s j i.
     let e = scaled (first c) s j i in
     let d = g_is c ∙ ap₂ gcd e.0 e.1 in
-    let p = to_z_pos w64 c.gcd.result (g_small c) in
+    let p = to_z_pos w64 c.gcd-divisor.result (g_small c) in
     simp (to_z-of_z, p, left_word c.before, right-word c.before, left-quotient c, right-quotient c) (record {
       left_is = ap₂ (λ z n. quot_z z (pos n)) (left_is c.before ∙ ap pos e.0) d;
       right_is = ap₂ (λ z n. quot_z z (pos n)) (right_is c.before ∙ ap pos e.1) d;
     })
 
-pub scales-spec : {M : Type 1} → statement M
-scales-spec =
+pub scales_spec : {M : Type 1} → statement M
+scales_spec =
     tie.close (tie.spec scale-requires scale-requires-2 cast-gcd cast-gcd-2 (λ c κs. search rules) (λ c. record { sfits = g_small c })
     div-t11 div-t12 returns)

@@ -15,56 +15,56 @@ use Rattle.build_counted.proofs.Counted.{machine_counted, count-sized, fits_then
 use Rattle.build_counted.proofs.add_product.Statement.{statement}
 use Rattle.build_counted.proofs.add_product.Tie as tie
 
-abbrev start : tie.After-product → tie.Start
+abbrev start : tie.After-product-term → tie.Start
 start c = c.before.before.before.before
 
-abbrev term : tie.After-product → ℚ
+abbrev term : tie.After-product-term → ℚ
 term c = value (start c).args.weight *ᵠ int (start c).args.condition
 
-product_is : (c : tie.After-product) (j : ℕ) → c.product.result ≡ counted (count j (term c))
+product_is : (c : tie.After-product-term) (j : ℕ) → c.product-term.result ≡ counted (count j (term c))
 product_is c j =
     let f = (start c).ranges.condition in
-    (simp to_z-of_z at c.product.ensures)
+    (simp to_z-of_z at c.product-term.ensures)
     ∙ machine_counted j _
     ∙ ap (λ q. counted (count j (value (start c).args.weight *ᵠ q))) (value-int (start c).args.condition)
 
-returns : tie.Need-returns
+returns : tie.Need-returns-then-weight-eq0
 returns c j =
     let s = c.before.before.before in
     let w = s.requires.weight-fits in
-    let none = of_z_inj w64 s.args.weight.num (pos 0) (sfits_abs (omega (arith, w.num_small))) (sfits_nat 0 (omega arith)) c.if1.true in
+    let none = of_z_inj w64 s.args.weight.num (pos 0) (sfits_abs (omega (arith, w.num_small))) (sfits_nat 0 (omega arith)) c.if-weight-eq0.true in
     sym (zero_then j (value s.args.weight) (int s.args.condition) s.args.sum
     (value-zero s.args.weight w.den_pos none) s.requires.sum_fits s.requires.sum_lowest)
 
-returns-2 : tie.Need-returns-2
+returns-2 : tie.Need-returns-then-sum-eq0
 returns-2 c j =
     let p = c.before.before.before in
     let s = start p in
-    let x = s.pre.sum_fits in
-    let none = of_z_inj w64 s.args.sum.num (pos 0) (sfits_abs (omega (arith, x.num_small))) (sfits_nat 0 (omega arith)) c.if2.true in
+    let x = s.requires.sum_fits in
+    let none = of_z_inj w64 s.args.sum.num (pos 0) (sfits_abs (omega (arith, x.num_small))) (sfits_nat 0 (omega arith)) c.if-sum-eq0.true in
     product_is p j ∙ ap counted (sym (zero-before j (term p) (value s.args.sum) (value-zero s.args.sum x.den_pos none)))
 
 sum-requires : tie.Need-sum-requires
 sum-requires c κs =
-    let p = c.before.before.before.before.before.before in
+    let p = c.before.before.before.before in
     record {
       first = (start p).requires.sum_fits;
-      second = (count-sized 0 (term p) c.before.term.given.0.0 (sym (product_is p 0) ∙ c.before.term.given.1)).1;
+      second = (count-sized 0 (term p) c.in-Fits.t (sym (product_is p 0) ∙ c.in-Fits.is)).1;
     }
 
-returns-3 : tie.Need-returns-3
+returns-3 : tie.Need-returns-in-Fits
 returns-3 c j =
-    let p = c.before.before.before.before.before.before.before in
-    let k = c.before.before.term.given in
+    let p = c.before.before.before.before.before in
+    let k = c.before.in-Fits in
     c.sum.ensures
     ∙ machine_counted j _
-    ∙ sym (fits_then (count j (term p)) (λ q. count j (value (start p).args.sum +ᵠ q)) k.0.0 (sym (product_is p j) ∙ k.1))
+    ∙ sym (fits_then (count j (term p)) (λ q. count j (value (start p).args.sum +ᵠ q)) k.t (sym (product_is p j) ∙ k.is))
 
-returns-4 : tie.Need-returns-4
+returns-4 : tie.Need-returns-in-TooLarge
 returns-4 c j =
-    let p = c.before.before.before.before.before in
-    sym (large_then (count j (term p)) (λ q. count j (value (start p).args.sum +ᵠ q)) (sym (product_is p j) ∙ c.enum_told.given.1))
+    let p = c.before.before.before.before in
+    sym (large_then (count j (term p)) (λ q. count j (value (start p).args.sum +ᵠ q)) (sym (product_is p j) ∙ c.in-TooLarge.is))
 
-pub add-product-spec : {M : Type 1} → statement M
-add-product-spec =
+pub add_product_spec : {M : Type 1} → statement M
+add_product_spec =
     tie.close (tie.spec returns (λ c κs. search rules) returns-2 (λ c. search rules) sum-requires (λ c. search rules) returns-3 returns-4)

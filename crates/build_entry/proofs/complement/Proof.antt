@@ -29,7 +29,7 @@ small w h = subst (λ (f : Fraction). nat_abs (f.den -ℤ f.num) < limit) (sym h
 difference-fits : (s : tie.Start) → SFits w64 (s.args.w.den -ℤ s.args.w.num)
 difference-fits s = let z = fitted s.args.w s.requires in sub_fits s.args.w.den s.args.w.num z.den-small z.num_small
 
-sub-t2 : tie.Need-overflow-sub-t2
+sub-t2 : tie.Need-overflow_sub-result
 sub-t2 c = let s = c.before.before in let z = fitted s.args.w s.requires in simp (to_z-of_z, num_fits z, den-fits z) (difference-fits s)
 
 returns : tie.Need-returns
@@ -40,5 +40,5 @@ returns c =
     simp (to_z-of_z, num_fits z, den-fits z, difference-fits s)
     (ratio_one_minus s.args.w.num s.args.w.den z.den_pos, record { num_small = small s.args.w s.requires; den_pos = z.den_pos; den-small = z.den-small })
 
-pub complement-spec : {M : Type 1} → statement M
-complement-spec = tie.close (tie.spec sub-t2 returns)
+pub complement_spec : {M : Type 1} → statement M
+complement_spec = tie.close (tie.spec sub-t2 returns)

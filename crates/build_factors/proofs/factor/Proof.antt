@@ -25,81 +25,81 @@ module _ (c : tie.Start) where
   step = value c.args.jump
 
 -- the partial sum fits
-sum_kept : (c : tie.After-sum2) → Kept (total c.before.before.before) c.sum2.given.0.0
-sum_kept c = kept (total c.before.before.before) c.sum2.given.0.0 (sym c.before.before.sum.ensures ∙ c.sum2.given.1)
+sum_kept : (c : tie.In-Fits) → Kept (total c.before.before) c.in-Fits.s
+sum_kept c = kept (total c.before.before) c.in-Fits.s (sym c.sum-sum.ensures ∙ c.in-Fits.is)
 
-quotient-requires : tie.Need-quotient-requires
+quotient-requires : tie.Need-quotient-quotient-requires
 quotient-requires c κs =
-    let s = c.before.before.before.before in
-    record { first = (sum_kept c.before).fitted; second = s.requires.jump_fits; divisor_nonzero = s.requires.jump_nonzero }
+    let s = c in
+    record { first = (sum_kept c).fitted; second = s.requires.jump_fits; divisor_nonzero = s.requires.jump_nonzero }
 
-module _ (c : tie.After-quotient) where
+module _ (c : tie.After-quotient-quotient) where
   abbrev before-sum : tie.Start
-  before-sum = c.before.before.before.before.before
+  before-sum = c.before.before.before
 
-  quotient_is : c.quotient.result ≡ machine.answer (size.count (total before-sum /ᵠ step before-sum))
-  quotient_is = c.quotient.ensures ∙ ap (λ q. machine.answer (size.count (q /ᵠ step before-sum))) (sum_kept c.before.before).value_is
+  quotient_is : c.quotient-quotient.result ≡ machine.answer (size.count (total before-sum /ᵠ step before-sum))
+  quotient_is = c.quotient-quotient.ensures ∙ ap (λ q. machine.answer (size.count (q /ᵠ step before-sum))) (sum_kept c.before).value_is
 
   sum_fits : fits (total before-sum) ≡ true
-  sum_fits = (sum_kept c.before.before).small
+  sum_fits = (sum_kept c.before).small
 
 -- the quotient fits
-quotient-kept : (c : tie.After-quotient2) → Kept (total (before-sum c.before.before) /ᵠ step (before-sum c.before.before)) c.quotient2.given.0.0
-quotient-kept c = kept (total (before-sum c.before.before) /ᵠ step (before-sum c.before.before)) c.quotient2.given.0.0 (sym (quotient_is c.before.before) ∙ c.quotient2.given.1)
+quotient-kept : (c : tie.In-Fits-quotient) → Kept (total (before-sum c.before) /ᵠ step (before-sum c.before)) c.in-Fits-quotient.w
+quotient-kept c = kept (total (before-sum c.before) /ᵠ step (before-sum c.before)) c.in-Fits-quotient.w (sym (quotient_is c.before) ∙ c.in-Fits-quotient.is)
 
-module _ (c : tie.After-strictly-between) where
+module _ (c : tie.After-strictly_between) where
   abbrev start : tie.Start
-  start = before-sum c.before.before.before.before
+  start = before-sum c.before.before
 
   abbrev factor-value : ℚ
   factor-value = total start /ᵠ step start
 
   sum-small : fits (total start) ≡ true
-  sum-small = sum_fits c.before.before.before.before
+  sum-small = sum_fits c.before.before
 
-  factor-kept : Kept factor-value c.before.before.quotient2.given.0.0
-  factor-kept = quotient-kept c.before.before
+  factor-kept : Kept factor-value c.in-Fits-quotient.w
+  factor-kept = quotient-kept c.before
 
-  test_is : c.strictly-between.result ≡ between factor-value
-  test_is = c.strictly-between.ensures ∙ ap between factor-kept.value_is
+  test_is : c.strictly_between.result ≡ between factor-value
+  test_is = c.strictly_between.ensures ∙ ap between factor-kept.value_is
 
-returns : tie.Need-returns
+returns : tie.Need-returns-then-strictly_between
 returns c j =
-    let b = c.before in
-    next_answered (total (start b)) (factor-value b) (quotient_factor j (total (start b)) (step (start b))) _ _
-    (factor-inside j (total (start b)) (step (start b)) (sum-small b) (factor-kept b).small (sym (test_is b) ∙ c.if1.true))
-    (let s = b.before.before.before.before.before.before in (sum_kept s).fraction_is) (factor-kept b).fraction_is
+    let b = c in
+    next_answered (total (start b.before)) (factor-value b.before) (quotient_factor j (total (start b.before)) (step (start b.before))) _ _
+    (factor-inside j (total (start b.before)) (step (start b.before)) (sum-small b.before) (factor-kept b.before).small (sym (test_is b.before) ∙ c.if-strictly_between.true))
+    (let s = b in (sum_kept s.before.before.before.before).fraction_is) (factor-kept b.before).fraction_is
 
-returns-2 : tie.Need-returns-2
+returns-2 : tie.Need-returns-in-TooLarge
 unfolding refusal_of
 returns-2 c j =
-    let a = c.before.before.before in
-    let r = c.no-factor.ensures in
-    next_refused (total a.before) (quotient_factor j (total a.before) (step a.before)) c.no-factor.result
-    (factor-sum_large j (total a.before) (step a.before) (not_kept (total a.before) (sym a.sum.ensures ∙ c.before.enum_told.given.1)))
+    let a = c in
+    let r = c.no_factor.ensures in
+    next_refused (total a.before.before.before) (quotient_factor j (total a.before.before.before) (step a.before.before.before)) c.no_factor.result
+    (factor-sum_large j (total a.before.before.before) (step a.before.before.before) (not_kept (total a.before.before.before) (sym a.sum-sum.ensures ∙ c.in-TooLarge.is)))
     r.0 r.1.0 r.1.1.0 r.1.1.1.0 r.1.1.1.1
 
-returns-3 : tie.Need-returns-3
+returns-3 : tie.Need-returns-in-TooLarge-quotient
 unfolding refusal_of
 returns-3 c j =
-    let a = c.before.before.before in
-    let s = before-sum a in
-    let r = c.no-factor2.ensures in
-    next_refused (total s) (quotient_factor j (total s) (step s)) c.no-factor2.result
-    (factor_large j (total s) (step s) (sum_fits a) (not_kept (total s /ᵠ step s) (sym (quotient_is a) ∙ c.before.enum-told2.given.1)))
+    let a = c in
+    let s = before-sum a.before.before in
+    let r = c.no_factor-in-TooLarge-quotient.ensures in
+    next_refused (total s) (quotient_factor j (total s) (step s)) c.no_factor-in-TooLarge-quotient.result
+    (factor_large j (total s) (step s) (sum_fits a.before.before) (not_kept (total s /ᵠ step s) (sym (quotient_is a.before.before) ∙ c.in-TooLarge-quotient.is)))
     r.0 r.1.0 r.1.1.0 r.1.1.1.0 r.1.1.1.1
 
-returns-4 : tie.Need-returns-4
+returns-4 : tie.Need-returns-else-strictly_between
 unfolding refusal_of
 returns-4 c j =
-    let b = c.before.before in
-    let r = c.no-factor3.ensures in
-    next_refused (total (start b)) (quotient_factor j (total (start b)) (step (start b))) c.no-factor3.result
-    (factor-outside j (total (start b)) (step (start b)) (sum-small b) (factor-kept b).small (sym (test_is b) ∙ c.before.if1.false))
+    let b = c in
+    let r = c.no_factor-in-Fits-quotient.ensures in
+    next_refused (total (start b.before.before)) (quotient_factor j (total (start b.before.before)) (step (start b.before.before))) c.no_factor-in-Fits-quotient.result
+    (factor-outside j (total (start b.before.before)) (step (start b.before.before)) (sum-small b.before.before) (factor-kept b.before.before).small (sym (test_is b.before.before) ∙ c.if-strictly_between.false))
     r.0 r.1.0 r.1.1.0 r.1.1.1.0 r.1.1.1.1
 
-pub factor-spec : {M : Type 1} → statement M
-factor-spec =
+pub factor_spec : {M : Type 1} → statement M
+factor_spec =
     tie.close (tie.spec (λ c κs. search rules) (λ c. search rules) (λ c κs. search rules) (λ c. search rules) quotient-requires
-    (λ c. search rules) (λ c κs. search rules) (λ c. search rules) (λ c κs. (quotient-kept c.before).fitted.den_pos) returns
+    (λ c. search rules) (λ c κs. search rules) (λ c. search rules) (λ c κs. (quotient-kept c).fitted.den_pos) returns
     (λ c κs. search rules) returns-2 returns-3 returns-4)

@@ -9,12 +9,12 @@ use Rattle.base_fraction.specs.Machine.{value}
 use Rattle.build_factors.proofs.strictly_between.Statement.{statement}
 use Rattle.build_factors.proofs.strictly_between.Tie as tie
 
-returns : tie.Need-returns
-returns c = c.is-below-one.ensures ∙ ap (λ (b : Bool). b && ltᵠ (value c.before.before.before.args.w) (int (pos 1)))
-    (sym (sym c.before.before.is_positive.ensures ∙ c.before.if1.true))
+returns : tie.Need-returns-then-is_positive
+returns c = c.is_below_one.ensures ∙ ap (λ (b : Bool). b && ltᵠ (value c.args.w) (int (pos 1)))
+    (sym (sym c.is_positive.ensures ∙ c.if-is_positive.true))
 
-returns-2 : tie.Need-returns-2
-returns-2 c = ap (λ (b : Bool). b && ltᵠ (value c.before.before.args.w) (int (pos 1))) (sym (sym c.before.is_positive.ensures ∙ c.if1.false))
+returns-2 : tie.Need-returns
+returns-2 c = ap (λ (b : Bool). b && ltᵠ (value c.args.w) (int (pos 1))) (sym (sym c.is_positive.ensures ∙ c.if-is_positive.false))
 
-pub strictly-between-spec : {M : Type 1} → statement M
-strictly-between-spec = tie.close (tie.spec (λ c κs. search rules) (λ c κs. search rules) returns returns-2)
+pub strictly_between_spec : {M : Type 1} → statement M
+strictly_between_spec = tie.close (tie.spec (λ c κs. search rules) (λ c κs. search rules) returns returns-2)

@@ -42,13 +42,13 @@ record Inv (num den : List ℤ) (at : ℕ) (join : Join) (k : ℕ) (sum : Fracti
   rest : (s : Space) (j : ℕ) (t : Table) → JoinIs join s j → Holds num den t
       → add_products j (row t at) (int (pos 0)) (conditions s j k) ≡ add_products j (row t at) (value sum) (drop e (conditions s j k))
 
-abbrev invariant-loop : tie.invariant-loop
+abbrev invariant-loop : tie.invariant-loop-e
 invariant-loop num den at join k entries count sum₀ e₀ sum e = Inv num den at join k sum e
 
-abbrev decreases-loop : tie.decreases-loop
+abbrev decreases-loop : tie.decreases-loop-e
 decreases-loop num den at join k entries count sum₀ e₀ sum e = 2 * k + 2 - e
 
-loop-holds : tie.Need-loop-init invariant-loop decreases-loop
+loop-holds : tie.Need-loop-e-init invariant-loop decreases-loop
 loop-holds c = record {
   within = omega arith;
   fitted = rw (← fraction-int (pos 0)) (fits-sized (int (pos 0)) (int-fits (pos 0) (omega arith)));
@@ -57,41 +57,41 @@ loop-holds c = record {
 }
 
 -- the product's two factors, in the definition's terms
-module _ (c : tie.After-condition invariant-loop decreases-loop) where
+module _ (c : tie.After-condition-1 invariant-loop decreases-loop) where
   abbrev start : tie.Start invariant-loop decreases-loop
   start = c.before.before.before.before.before
 
   abbrev place : ℕ
-  place = c.before.before.before.before.loop.e
+  place = c.loop-e.e
 
   abbrev sum : Fraction
-  sum = c.before.before.before.before.loop.sum
+  sum = c.loop-e.sum
 
-  read_fits : SFits w64 (get_or start.args.t6 place (pos 0))
-  read_fits = record { sfits = c.condition.given }
+  read_fits : SFits w64 (get_or start.args.entries place (pos 0))
+  read_fits = record { sfits = c.condition-1.given }
 
-module _ (c : tie.After-condition invariant-loop decreases-loop) (s : Space) (j : ℕ) (i : JoinIs (start c).args.join s j) where
+module _ (c : tie.After-condition-1 invariant-loop decreases-loop) (s : Space) (j : ℕ) (i : JoinIs (start c).args.join s j) where
   abbrev this : Entry
   this = get_or (conditions s j (start c).args.k) (place c) no_entry
 
-  condition_is : get_or (start c).args.t6 (place c) (pos 0) ≡ this.condition
+  condition_is : get_or (start c).args.entries (place c) (pos 0) ≡ this.condition
   condition_is = ap (λ xs. get_or xs (place c) (pos 0)) ((start c).requires.entries_are s j i) ∙ entries_get_d (conditions s j (start c).args.k) (place c) (omega arith)
 
-  weight_is : (t : Table) → Holds (start c).args.num.now (start c).args.den.now t → c.before.read.result ≡ fraction (entry (row t (start c).args.at) this.column)
+  weight_is : (t : Table) → Holds (start c).args.num.now (start c).args.den.now t → c.read-weight.result ≡ fraction (entry (row t (start c).args.at) this.column)
   weight_is t h =
-      let n = c.before.before.column.result in
-      (λ z. record { num = c.before.read.ensures.0 z; den = c.before.read.ensures.1 z })
-      ∙ holds-cell h (start c).args.at n (omega arith) c.before.before.column.ensures.1
-      ∙ ap (λ m. fraction (cell t (start c).args.at m)) (c.before.before.column.ensures.0 s j i)
+      let n = c.column-c.result in
+      (λ z. record { num = c.read-weight.ensures.0 z; den = c.read-weight.ensures.1 z })
+      ∙ holds-cell h (start c).args.at n (omega arith) c.column-c.ensures.1
+      ∙ ap (λ m. fraction (cell t (start c).args.at m)) (c.column-c.ensures.0 s j i)
 
-add-product-requires : tie.Need-add-product-requires invariant-loop decreases-loop
+add-product-requires : tie.Need-add_product-next-requires invariant-loop decreases-loop
 add-product-requires c κs =
     let p = (start c).requires in
     let f = p.join-fits in
     let t = p.table in
     let h = p.held in
-    let l = c.before.before.before.before.loop.invariant in
-    let weight : FractionFits c.before.read.result = rw (weight_is c f.space f.index f.is t h)
+    let l = c.loop-e.invariant in
+    let weight : FractionFits c.read-weight.result = rw (weight_is c f.space f.index f.is t h)
     (fits-sized (cell t (start c).args.at (this c f.space f.index f.is).column)
     (h.fit (start c).args.at (this c f.space f.index f.is).column)) in
     record {
@@ -102,7 +102,7 @@ add-product-requires c κs =
     }
 
 -- what one more product and its sum answer
-module _ (c : tie.After-add-product invariant-loop decreases-loop) (s : Space) (j : ℕ) (t : Table) (i : JoinIs (start c.before).args.join s j)
+module _ (c : tie.After-add_product-next invariant-loop decreases-loop) (s : Space) (j : ℕ) (t : Table) (i : JoinIs (start c.before).args.join s j)
     (h : Holds (start c.before).args.num.now (start c.before).args.den.now t) where
   abbrev cells : List ℚ
   cells = row t (start c.before).args.at
@@ -113,61 +113,61 @@ module _ (c : tie.After-add-product invariant-loop decreases-loop) (s : Space) (
   abbrev more : Outcome ℚ
   more = one_more j cells (value (sum c.before)) (this c.before s j i)
 
-  more_is : c.add-product.result ≡ counted more
+  more_is : c.add_product-next.result ≡ counted more
   more_is =
-      (simp (to_z-of_z, read_fits c.before) at (c.add-product.ensures j))
+      (simp (to_z-of_z, read_fits c.before) at (c.add_product-next.ensures j))
       ∙ ap₂ (λ q z. counted (count j (q *ᵠ int z) then λ p. count j (value (sum c.before) +ᵠ p))) (ap value (weight_is c.before s j i t h) ∙ value-fraction _) (condition_is c.before s j i)
 
-  more_sized : (f : Fraction) → c.add-product.result ≡ Fits f → FractionFits f
+  more_sized : (f : Fraction) → c.add_product-next.result ≡ Fits f → FractionFits f
   more_sized f e = then_count-sized j (count j (entry cells (this c.before s j i).column *ᵠ int (this c.before s j i).condition)) (λ p. value (sum c.before) +ᵠ p) f (sym more_is ∙ e)
 
   -- the jump, from this entry on
   jump_from : add_products j cells (int (pos 0)) κ ≡ add_products j cells (value (sum c.before)) (this c.before s j i ∷ drop (suc (place c.before)) κ)
   jump_from =
-      let l = c.before.before.before.before.before.loop in l.invariant.rest s j t i h
+      let l = c.loop-e in l.invariant.rest s j t i h
       ∙ ap (add_products j cells (value (sum c.before))) (drop-cons κ (place c.before) no_entry
-      (omega (arith, conditions_length s j (start c.before).args.k, c.before.before.before.before.loop-test.true)))
+      (omega (arith, conditions_length s j (start c.before).args.k, c.loop-e-test.true)))
 
-returns : tie.Need-returns invariant-loop decreases-loop
+returns : tie.Need-returns-in-TooLarge invariant-loop decreases-loop
 returns c s j t i h =
-    let a = c.before.before in
-    let r = large_refused (more a s j t i h) (sym (more_is a s j t i h) ∙ c.enum_told.given.1) in
-    sym (refused_large (jump_from a s j t i h ∙ products_refused j (cells a s j t i h) _ _ _ r.refuses))
+    let a = c in
+    let r = large_refused (more a.before s j t i h) (sym (more_is a.before s j t i h) ∙ c.in-TooLarge.is) in
+    sym (refused_large (jump_from a.before s j t i h ∙ products_refused j (cells a.before s j t i h) _ _ _ r.refuses))
 
-loop-again : tie.Need-loop-preserved invariant-loop decreases-loop
+loop-again : tie.Need-loop-e-preserved invariant-loop decreases-loop
 loop-again c =
-    let a = c.before.before.before in
-    let known = c.before.next.given in
-    let p = (start a.before).pre in
+    let a = c in
+    let known = c.in-Fits in
+    let p = (start a.before.before).requires in
     let f = p.join-fits in
     let t = p.table in
     let h = p.held in
     record {
       within = omega arith;
-      fitted = more_sized a f.space f.index t f.is h known.0.0 known.1;
-      lowest = (fits_answered (more a f.space f.index t f.is h) known.0.0
-          (sym (more_is a f.space f.index t f.is h) ∙ known.1)).lowest;
+      fitted = more_sized a.before f.space f.index t f.is h known.s known.is;
+      lowest = (fits_answered (more a.before f.space f.index t f.is h) known.s
+          (sym (more_is a.before f.space f.index t f.is h) ∙ known.is)).lowest;
       rest = λ s j t i h.
-          let x = fits_answered (more a s j t i h) known.0.0 (sym (more_is a s j t i h) ∙ known.1) in
-          jump_from a s j t i h
-          ∙ products_more j (cells a s j t i h) _ _ _ x.answers
-          ∙ ap (λ n. add_products j (cells a s j t i h) (value known.0.0) (drop n (κ a s j t i h))) (sym (add-one (place a.before)));
+          let x = fits_answered (more a.before s j t i h) known.s (sym (more_is a.before s j t i h) ∙ known.is) in
+          jump_from a.before s j t i h
+          ∙ products_more j (cells a.before s j t i h) _ _ _ x.answers
+          ∙ ap (λ n. add_products j (cells a.before s j t i h) (value known.s) (drop n (κ a.before s j t i h))) (sym (add-one (place a.before.before)));
     }
 
-returns-2 : tie.Need-returns-2 invariant-loop decreases-loop
+returns-2 : tie.Need-returns invariant-loop decreases-loop
 unfolding counted
 returns-2 c s j t i h =
-    let a = c.before.before.args in
-    let l = c.before.loop in
+    let a = c.args in
+    let l = c.loop-e in
     ap Fits l.invariant.lowest
     ∙ sym (ap counted (
     l.invariant.rest s j t i h
-    ∙ ap (add_products j (row t a.at) (value l.sum)) (drop_of_length-le (conditions s j a.k) {i = l.e} (omega (arith, conditions_length s j a.k, c.loop-test.false)))
+    ∙ ap (add_products j (row t a.at) (value l.sum)) (drop_of_length-le (conditions s j a.k) {i = l.e} (omega (arith, conditions_length s j a.k, c.loop-e-test.false)))
     ∙ products_none j (row t a.at) (value l.sum)))
 
-pub jump-spec : {M : Type 1} → statement M
-jump-spec =
+pub jump_spec : {M : Type 1} → statement M
+jump_spec =
     tie.close (tie.spec invariant-loop decreases-loop (λ c. omega arith) (λ c. omega arith) loop-holds
-    (λ c κs. (c.before.before.requires.join-fits, omega arith)) (λ c. omega arith) (λ c. omega arith)
-    (λ c κs. let h = c.before.before.before.requires.held in omega (arith, h.num_long, h.den_long)) (λ c. omega arith) (λ c. omega arith)
+    (λ c κs. (c.requires.join-fits, omega arith)) (λ c. omega arith) (λ c. omega arith)
+    (λ c κs. let h = c.requires.held in omega (arith, h.num_long, h.den_long)) (λ c. omega arith) (λ c. omega arith)
     add-product-requires (λ c. search rules) (λ c. search rules) returns (λ c. omega arith) (λ c. omega arith) loop-again returns-2)

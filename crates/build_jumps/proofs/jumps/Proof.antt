@@ -44,71 +44,71 @@ record Inv (num den : List ℤ) (rows : ℕ) (join : Join) (k : ℕ) (js : Fract
   within : i ≤ rows
   rest : (s : Space) (j : ℕ) (t : Table) → JoinIs join s j → Holds num den t → Collected s j k t js i
 
-abbrev invariant-loop : tie.invariant-loop
+abbrev invariant-loop : tie.invariant-loop-i
 invariant-loop num den rows join k entries js₀ i₀ js i = Inv num den rows join k js i
 
-abbrev decreases-loop : tie.decreases-loop
+abbrev decreases-loop : tie.decreases-loop-i
 decreases-loop num den rows join k entries js₀ i₀ js i = rows - i
 
-loop-holds : tie.Need-loop-init invariant-loop decreases-loop
+loop-holds : tie.Need-loop-i-init invariant-loop decreases-loop
 loop-holds c = record {
   within = omega arith;
-  rest = λ s j t i h. record { done = []; collects = collect-none (row_jump s j c.before.before.args.k t); js_is = c.no-fractions.ensures };
+  rest = λ s j t i h. record { done = []; collects = collect-none (row_jump s j c.args.k t); js_is = c.no_fractions-js.ensures };
 }
 
-jump-requires : tie.Need-jump-requires invariant-loop decreases-loop
+jump-requires : tie.Need-jump-j-requires invariant-loop decreases-loop
 jump-requires c κs =
-    let s = c.before.before.before.before in
+    let s = c in
     record {
       row_within = omega arith;
       join-fits = s.requires.0.1;
-      entries_are = c.before.before.before.entries.ensures;
+      entries_are = c.entries-entries.ensures;
       table = s.requires.1.0;
       held = s.requires.1.1;
     }
 
-returns : tie.Need-returns invariant-loop decreases-loop
+returns : tie.Need-returns-in-TooLarge invariant-loop decreases-loop
 unfolding row_jumps
 returns c s j t i h size =
-    let a = c.before.before.before in
-    let l = a.before.before.loop in
-    let k = a.before.before.before.before.before.args.k in
-    let r = large_refused (row_jump s j k t l.i) (sym (a.jump.ensures s j t i h) ∙ c.before.enum_told.given.1) in
-    ap (λ (none : Fractions). record { fit = false; of = none }) c.no-fractions2.ensures
-    ∙ sym (ap row_jumps (collect_stays (suc l.i) (length t) (row_jump s j k t) (omega (arith, a.before.loop-test.true, size))
+    let a = c in
+    let l = a.loop-i in
+    let k = a.args.k in
+    let r = large_refused (row_jump s j k t l.i) (sym (a.jump-j.ensures s j t i h) ∙ c.in-TooLarge.is) in
+    ap (λ (none : Fractions). record { fit = false; of = none }) c.no_fractions.ensures
+    ∙ sym (ap row_jumps (collect_stays (suc l.i) (length t) (row_jump s j k t) (omega (arith, a.loop-i-test.true, size))
     (collect-ends l.i (row_jump s j k t) (l.invariant.rest s j t i h).collects r.refuses)))
 
-loop-again : tie.Need-loop-preserved invariant-loop decreases-loop
+loop-again : tie.Need-loop-i-preserved invariant-loop decreases-loop
 loop-again c =
-    let known = c.before.before.before.j.given in
-    let a = c.before.before.before.before.before in
-    let l = a.before.before.loop in
-    let k = a.before.before.before.before.before.args.k in
-    let n : SFits w64 known.0.0.num = record { sfits = c.struct-told2.given.0.1 } in
-    let d : SFits w64 known.0.0.den = record { sfits = c.struct-told2.given.1.0.1 } in
+    let known = c.in-Fits in
+    let a = c in
+    let l = a.loop-i in
+    let k = a.args.k in
+    let n : SFits w64 known.q.num = record { sfits = c.struct_told-in-Fits-1.given.0.1 } in
+    let d : SFits w64 known.q.den = record { sfits = c.struct_told-in-Fits-1.given.1.0.1 } in
     record {
       within = omega arith;
       rest = λ s j t i h.
-          let x = fits_answered (row_jump s j k t l.i) known.0.0 (sym (a.jump.ensures s j t i h) ∙ known.1) in
+          let x = fits_answered (row_jump s j k t l.i) known.q (sym (a.jump-j.ensures s j t i h) ∙ known.is) in
           let y = l.invariant.rest s j t i h in
           record {
-            done = y.done ++ (value known.0.0 ∷ []);
+            done = y.done ++ (value known.q ∷ []);
             collects = ap (λ m. collect m (row_jump s j k t)) (add-one l.i) ∙ collect_more l.i (row_jump s j k t) y.collects x.answers;
-            js_is = simp to_z-of_z (fractions_more y.done (value known.0.0) l.i l.js known.0.0
+            js_is = simp to_z-of_z (fractions_more y.done (value known.q) l.i l.js known.q
                 (collect_inverts l.i (row_jump s j k t) y.collects).size (omega arith) y.js_is x.lowest);
           };
     }
 
-returns-2 : tie.Need-returns-2 invariant-loop decreases-loop
+returns-2 : tie.Need-returns invariant-loop decreases-loop
 unfolding row_jumps
 returns-2 c s j t i h size =
-    let l = c.before.loop in
+    let l = c.loop-i in
     let y = l.invariant.rest s j t i h in
     ap (λ (js : Fractions). record { fit = true; of = js }) y.js_is
-    ∙ sym (ap row_jumps (ap (λ m. collect m (row_jump s j c.before.before.before.before.args.k t)) (let z : length t ≡ l.i = omega arith in z) ∙ y.collects))
+    ∙ sym (ap row_jumps (ap (λ m. collect m (row_jump s j c.args.k t)) (let z : length t ≡ l.i = omega arith in z) ∙ y.collects))
 
-pub jumps-spec : {M : Type 1} → statement M
-jumps-spec =
+pub jumps_spec : {M : Type 1} → statement M
+jumps_spec =
     tie.close (tie.spec invariant-loop decreases-loop (λ c κs. c.requires.0.1) (λ c κs. search rules) loop-holds jump-requires (λ c. search rules)
     (λ c. omega arith) (λ c. omega arith) (λ c. omega arith) (λ c. omega arith) (λ c. search rules) (λ c κs. search rules) returns
     (λ c. omega arith) (λ c. omega arith) loop-again returns-2)

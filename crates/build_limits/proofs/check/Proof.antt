@@ -13,18 +13,18 @@ use Rattle.build_limits.proofs.check.Tie as tie
 abbrev lists : tie.Start → Space
 lists s = space s.args.breaks.now s.args.degrees.now s.args.orders.now
 
-check-breaks-requires : tie.Need-check-breaks-requires
+check-breaks-requires : tie.Need-check_breaks-requires
 check-breaks-requires c κs =
-    let h : Lengths (lists c.before.before) = lengths_fit_inverts _ (sym c.before.lengths-fit.ensures ∙ c.if1.true) in
+    let h : Lengths (lists c.before.before) = lengths_fit_inverts _ (sym c.before.lengths_fit.ensures ∙ c.if-lengths_fit.true) in
     (sym h.order-count, h.break-count)
 
-returns : tie.Need-returns
+returns : tie.Need-returns-then-lengths_fit
 returns c =
     let b = c.before.before in
-    c.check-breaks.ensures ∙ sym (ap legality (checked-entries (lists b.before) (sym b.lengths-fit.ensures ∙ c.before.if1.true)))
+    c.check_breaks.ensures ∙ sym (ap legality (checked-entries (lists b.before) (sym b.lengths_fit.ensures ∙ c.before.if-lengths_fit.true)))
 
-returns-2 : tie.Need-returns-2
-returns-2 c = sym (refusal_refused _ (checked-lengths _ (sym c.before.lengths-fit.ensures ∙ c.if1.false)))
+returns-2 : tie.Need-returns-else-lengths_fit
+returns-2 c = sym (refusal_refused _ (checked-lengths _ (sym c.before.lengths_fit.ensures ∙ c.if-lengths_fit.false)))
 
-pub check-spec : {M : Type 1} → statement M
-check-spec = tie.close (tie.spec (λ c κs. search rules) check-breaks-requires returns returns-2)
+pub check_spec : {M : Type 1} → statement M
+check_spec = tie.close (tie.spec (λ c κs. search rules) check-breaks-requires returns returns-2)

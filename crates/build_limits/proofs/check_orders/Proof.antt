@@ -11,21 +11,21 @@ use Rattle.build_limits.proofs.check_orders.Tie as tie
 abbrev lists : tie.Start → Space
 lists s = space s.args.breaks.now s.args.degrees.now s.args.orders.now
 
-first-bad-requires : tie.Need-first-bad-requires
+first-bad-requires : tie.Need-first_bad-bad-requires
 unfolding entries
 first-bad-requires c κs = (c.requires, omega arith)
 
-returns : tie.Need-returns
+returns : tie.Need-returns-in-At
 returns c =
-    let b = c.before.before in let f = b.before.before in let s = f.before in
-    link_refused (orders_link (lists s) s.requires.0) f.first-bad.ensures b.bad.given.1 c.place.ensures
+    let b = c.before in let f = b.before in let s = f.before in
+    link_refused (orders_link (lists s) s.requires.0) f.first_bad-bad.ensures b.in-At.is c.place.ensures
 
-returns-2 : tie.Need-returns-2
+returns-2 : tie.Need-returns-in-Nothing
 returns-2 c =
-    let b = c.before in let f = b.before.before in let s = f.before in
-    link_passed (orders_link (lists s) s.requires.0) f.first-bad.ensures b.enum_told.given.1 c.check-parts.ensures
+    let b = c.before in let f = b.before in let s = f.before in
+    link_passed (orders_link (lists s) s.requires.0) f.first_bad-bad.ensures b.in-Nothing.is c.check_parts.ensures
 
-pub check-orders-spec : {M : Type 1} → statement M
-check-orders-spec =
+pub check_orders_spec : {M : Type 1} → statement M
+check_orders_spec =
     tie.close (tie.spec first-bad-requires (λ c. search rules) (λ c κs. search rules) (λ c. search rules) (λ c κs. search rules) returns
     returns-2)

@@ -17,29 +17,29 @@ use Rattle.build_limits.proofs.check_spans.Tie as tie
 abbrev lists : tie.Start → Space
 lists s = space s.args.breaks.now s.args.degrees.now s.args.orders.now
 
-first-bad-requires : tie.Need-first-bad-requires
+first-bad-requires : tie.Need-first_bad-bad-requires
 unfolding entries
 first-bad-requires c κs = (c.requires, omega arith)
 
-part-end-requires : tie.Need-part-end-requires
+part-end-requires : tie.Need-part_end-end-requires
 part-end-requires c κs =
-    let b = c.before in
-    ((first_some_inverts _ _ (found_some_inverts _ (sym b.before.before.first-bad.ensures ∙ b.bad.given.1))).below, b.before.before.before.requires.0)
+    let b = c in
+    ((first_some_inverts _ _ (found_some_inverts _ (sym b.before.first_bad-bad.ensures ∙ b.in-At.is))).below, b.before.before.requires.0)
 
-returns : tie.Need-returns
+returns : tie.Need-returns-in-At
 returns c =
-    let b = c.before.before.before in
-    let s = b.before.before.before in
-    let e = c.before.part_end.ensures ∙ part_end_partial s.args.breaks.now s.args.degrees.now s.args.orders.now b.bad.given.0.0 in
-    ap (Refused 3) (c.place.ensures ∙ ap capped e) ∙ sym (spans_refused (lists s) (sym b.before.before.first-bad.ensures ∙ b.bad.given.1))
+    let b = c.before.before in
+    let s = b.before.before in
+    let e = c.before.part_end-end.ensures ∙ part_end_partial s.args.breaks.now s.args.degrees.now s.args.orders.now b.in-At.i in
+    ap (Refused 3) (c.place.ensures ∙ ap capped e) ∙ sym (spans_refused (lists s) (sym b.before.first_bad-bad.ensures ∙ b.in-At.is))
 
-returns-2 : tie.Need-returns-2
+returns-2 : tie.Need-returns-in-Nothing
 returns-2 c =
     let b = c.before in
-    let s = b.before.before.before in
-    c.check-degrees.ensures ∙ sym (spans_pass (lists s) (sym b.before.before.first-bad.ensures ∙ b.enum_told.given.1))
+    let s = b.before.before in
+    c.check_degrees.ensures ∙ sym (spans_pass (lists s) (sym b.before.first_bad-bad.ensures ∙ b.in-Nothing.is))
 
-pub check-spans-spec : {M : Type 1} → statement M
-check-spans-spec =
+pub check_spans_spec : {M : Type 1} → statement M
+check_spans_spec =
     tie.close (tie.spec first-bad-requires (λ c. search rules) part-end-requires (λ c κs. search rules) (λ c. search rules)
     (λ c κs. search rules) returns returns-2)

@@ -4,7 +4,7 @@ use Rattle.build_space.proofs.Tests.{no_segment, many_segments, wrong_breaks, or
 use Rattle.build_limits.proofs.lengths_fit.Statement.{statement}
 use Rattle.build_limits.proofs.lengths_fit.Tie as tie
 
-pub lengths-fit-spec : {M : Type 1} → statement M
-lengths-fit-spec =
-    tie.close (tie.spec (λ c. no_segment _ c.if1.true) (λ c. many_segments _ c.if2.true) (λ c. search rules)
-    (λ c. wrong_breaks _ c.if3.true) (λ c. orders_left _ c.before.before.if1.false c.before.if2.false c.if3.false))
+pub lengths_fit_spec : {M : Type 1} → statement M
+lengths_fit_spec =
+    tie.close (tie.spec (λ c. no_segment _ c.if-m-lt1.true) (λ c. many_segments _ c.if-m-gt-SEGMENT_LIMIT.true) (λ c. search rules)
+    (λ c. wrong_breaks _ c.if-breaks-m.true) (λ c. orders_left _ c.before.before.if-m-lt1.false c.before.if-m-gt-SEGMENT_LIMIT.false c.if-breaks-m.false))

@@ -53,10 +53,10 @@ record Inv (num₀ den₀ : List ℤ) (i : ℕ) (w u : Fraction) (columns : ℕ)
   den-written : Written den₀ dens (72 * i) (72 * i + c)
   made : (t : Table) (j : ℕ) (v : ℚ) → Holds num₀ den₀ t → value u ≡ int (pos 1) -ᵠ v → (d : ℕ) → d < c → Made num dens i w t j v d
 
-abbrev invariant-loop : tie.invariant-loop
+abbrev invariant-loop : tie.invariant-loop-c
 invariant-loop num₀ den₀ i w u columns c₀ num den c = Inv num₀ den₀ i w u columns num den c
 
-abbrev decreases-loop : tie.decreases-loop
+abbrev decreases-loop : tie.decreases-loop-c
 decreases-loop num₀ den₀ i w u columns c₀ num den c = columns - c
 
 -- ---- reading
@@ -76,37 +76,37 @@ record Room (i columns : ℕ) (num dens : List ℤ) (c : ℕ) : Type 0 where
   num_room : 72 * i + c + 72 < length num
   den-room : 72 * i + c + 72 < length dens
 
-room : (r : tie.In-loop invariant-loop decreases-loop) → Room r.before.before.args.i r.before.before.args.columns r.before.loop.num r.before.loop.den r.before.loop.c
+room : (r : tie.In-loop-c invariant-loop decreases-loop) → Room r.args.i r.args.columns r.loop-c.num r.loop-c.den r.loop-c.c
 room r = record { row_fits = omega arith; columns-fit = omega arith; taken = omega arith; num_room = omega arith; den-room = omega arith }
 
-abbrev at_loop : tie.After-read2 invariant-loop decreases-loop → tie.At-loop invariant-loop decreases-loop
-at_loop r = r.before.before.before.before.before.before.before
+abbrev at_loop : tie.After-read-y invariant-loop decreases-loop → tie.At-loop-c invariant-loop decreases-loop
+at_loop r = r.before.before.before
 
-abbrev start : tie.After-read2 invariant-loop decreases-loop → tie.Start invariant-loop decreases-loop
+abbrev start : tie.After-read-y invariant-loop decreases-loop → tie.Start invariant-loop decreases-loop
 start r = (at_loop r).before
 
-module _ (r : tie.After-read2 invariant-loop decreases-loop) (t : Table) (h : Holds (start r).args.num.now (start r).args.den.now t) where
-  x_is : r.before.before.before.read.result ≡ fraction (cell t (start r).args.i (at_loop r).loop.c)
+module _ (r : tie.After-read-y invariant-loop decreases-loop) (t : Table) (h : Holds (start r).args.num.now (start r).args.den.now t) where
+  x_is : r.read-x.result ≡ fraction (cell t (start r).args.i (at_loop r).loop-c.c)
   x_is =
-      let v = (at_loop r).loop.invariant in
-      let e = r.before.before.before.read.ensures in
+      let v = (at_loop r).loop-c.invariant in
+      let e = r.read-x.ensures in
       read_cell h v.num_written v.den-written _ _ (omega arith) (omega arith) _ refl (omega arith) _ e.0 e.1
 
-  y_is : r.read2.result ≡ fraction (cell t (suc (start r).args.i) (at_loop r).loop.c)
+  y_is : r.read-y.result ≡ fraction (cell t (suc (start r).args.i) (at_loop r).loop-c.c)
   y_is =
-      let v = (at_loop r).loop.inv in
-      let e = r.read2.ensures in
+      let v = (at_loop r).loop-c.invariant in
+      let e = r.read-y.ensures in
       read_cell h v.num_written v.den-written _ _ (omega arith) (omega arith) _ (omega arith) (omega arith) _ e.0 e.1
 
 -- what the turn makes is counted from the old entries
-outcome : (n : tie.After-new-entry invariant-loop decreases-loop) (t : Table) (j : ℕ) (v : ℚ)
+outcome : (n : tie.After-new_entry-made invariant-loop decreases-loop) (t : Table) (j : ℕ) (v : ℚ)
     → Holds (start n.before).args.num.now (start n.before).args.den.now t → value (start n.before).args.u ≡ int (pos 1) -ᵠ v
-    → n.new-entry.result ≡ counted (new_entry j (value (start n.before).args.w) v (cell t (start n.before).args.i (at_loop n.before).loop.c)
-    (cell t (suc (start n.before).args.i) (at_loop n.before).loop.c))
+    → n.new_entry-made.result ≡ counted (new_entry j (value (start n.before).args.w) v (cell t (start n.before).args.i (at_loop n.before).loop-c.c)
+    (cell t (suc (start n.before).args.i) (at_loop n.before).loop-c.c))
 outcome n t j v h e =
     let r = n.before in
     let w = (start r).args.w in
-    n.new-entry.ensures j v e
+    n.new_entry-made.ensures j v e
     ∙ ap₂ (λ (a b : Fraction). counted (new_entry j (value w) v (value a) (value b))) (x_is r t h) (y_is r t h)
     ∙ ap₂ (λ (a b : ℚ). counted (new_entry j (value w) v a b)) (value-fraction _) (value-fraction _)
 
@@ -134,10 +134,10 @@ module _ (num dens : List ℤ) (i c : ℕ) (w : Fraction) (t : Table) (j : ℕ) 
         den_is = get_or-set_other dens (72 * i + c) (72 * i + d) q.den (pos 0) (λ z. omega arith) ∙ m.den_is;
       }
 
-loop-holds : tie.Need-loop-init invariant-loop decreases-loop
+loop-holds : tie.Need-loop-c-init invariant-loop decreases-loop
 loop-holds c = record { within = omega arith; num_written = written_none _ _ _; den-written = written_none _ _ _; made = λ t j v h e d l. absurd (omega arith) }
 
-new-entry-requires : tie.Need-new-entry-requires invariant-loop decreases-loop
+new-entry-requires : tie.Need-new_entry-made-requires invariant-loop decreases-loop
 new-entry-requires c κs =
     let p = (start c).requires in
     let t = p.1.0 in
@@ -149,43 +149,43 @@ new-entry-requires c κs =
       second-entry = subst FractionFits (sym (y_is c t h)) (fits-sized _ (h.fit _ _));
     }
 
-returns : tie.Need-returns invariant-loop decreases-loop
+returns : tie.Need-returns-in-TooLarge invariant-loop decreases-loop
 returns c t j v h e inside wide =
-    let n = c.before.before in
-    let r = n.before in
-    let a = (start r).args in
-    let l = (at_loop r).loop in
-    let b = r.before.before.before.before.before.before in let m = room b in
-    let o = large_refused _ (sym (outcome n t j v h e) ∙ c.enum_told.given.1) in
-    let stops = collect_stops (length (row t a.i)) l.c (entries a.w v t a.i j) (mixed a.w v t a.i) (omega arith) (λ d k. (l.inv.made t j v h e d k).answers) o.refuses in
+    let n = c in
+    let r = n in
+    let a = (start r.before.before).args in
+    let l = (at_loop r.before.before).loop-c in
+    let b = r in let m = room b.before.before.before.before in
+    let o = large_refused _ (sym (outcome n.before t j v h e) ∙ c.in-TooLarge.is) in
+    let stops = collect_stops (length (row t a.i)) l.c (entries a.w v t a.i j) (mixed a.w v t a.i) (omega arith) (λ d k. (l.invariant.made t j v h e d k).answers) o.refuses in
     subst (λ (out : Outcome (List ℚ)). LeavesIf (with_answer (set t a.i) out) false a.num.now a.den.now l.num l.den) (sym stops)
-    (refl, written-kept (omega arith) l.inv.num_written, written-kept (omega arith) l.inv.den-written)
+    (refl, written-kept (omega arith) l.invariant.num_written, written-kept (omega arith) l.invariant.den-written)
 
-loop-again : tie.Need-loop-preserved invariant-loop decreases-loop
+loop-again : tie.Need-loop-c-preserved invariant-loop decreases-loop
 loop-again c =
-    let n = c.before.before.before.before.before in
-    let r = n.before in
-    let a = (start r).args in
-    let l = (at_loop r).loop in
-    let b = r.before.before.before.before.before.before in let m = room b in
-    let q = c.before.before.before.made.given in
-    let x : SFits w64 q.0.0.num = record { sfits = c.struct-told2.given.0.1 } in
-    let y : SFits w64 q.0.0.den = record { sfits = c.struct-told2.given.1.0.1 } in
+    let n = c in
+    let r = n in
+    let a = (start r.before.before.before.before).args in
+    let l = (at_loop r.before.before.before.before).loop-c in
+    let b = r in let m = room b.before.before.before.before.before.before in
+    let q = c.in-Fits in
+    let x : SFits w64 q.q.num = record { sfits = c.struct_told-in-Fits-1.given.0.1 } in
+    let y : SFits w64 q.q.den = record { sfits = c.struct_told-in-Fits-1.given.1.0.1 } in
     simp to_z-of_z (record {
       within = omega arith;
-      num_written = written_more _ _ (omega arith) (omega arith) l.inv.num_written;
-      den-written = written_more _ _ (omega arith) (omega arith) l.inv.den-written;
+      num_written = written_more _ _ (omega arith) (omega arith) l.invariant.num_written;
+      den-written = written_more _ _ (omega arith) (omega arith) l.invariant.den-written;
       made = λ t j v h e.
-          let o = fits_answered _ q.0.0 (sym (outcome n t j v h e) ∙ q.1) in
+          let o = fits_answered _ q.q (sym (outcome n.before.before.before t j v h e) ∙ q.is) in
           let k = new_entry-answers j _ v _ _ o.answers in
-          turn l.num l.den a.i l.c a.w t j v q.0.0 (omega arith) (omega arith) (o.answers ∙ ap answer k.0) (o.lowest ∙ ap fraction k.0) (l.inv.made t j v h e);
+          turn l.num l.den a.i l.c a.w t j v q.q (omega arith) (omega arith) (o.answers ∙ ap answer k.0) (o.lowest ∙ ap fraction k.0) (l.invariant.made t j v h e);
     })
 
-returns-2 : tie.Need-returns-2 invariant-loop decreases-loop
+returns-2 : tie.Need-returns invariant-loop decreases-loop
 returns-2 c t j v h e inside wide =
-    let s = c.before.before in
+    let s = c in
     let a = s.args in
-    let l = c.before.loop in
+    let l = c.loop-c in
     let m = l.invariant.made t j v h e in
     let done : l.c ≡ length (row t a.i) = omega arith in
     let answers = collect-answers (length (row t a.i)) (entries a.w v t a.i j) (mixed a.w v t a.i) (λ d k. (m d (omega arith)).answers) in
@@ -197,10 +197,10 @@ returns-2 c t j v h e inside wide =
           (written_wider _ (omega arith) l.invariant.den-written) (λ d k. (m d (omega arith)).den_is) ∙ sym (denominators-laid _ _),
     )
 
-pub mix-row-spec : {M : Type 1} → statement M
-mix-row-spec =
+pub mix_row_spec : {M : Type 1} → statement M
+mix_row_spec =
     tie.close (tie.spec invariant-loop decreases-loop loop-holds (λ c. omega arith) (λ c. omega arith) (λ c. omega arith) (λ c κs. omega arith)
     (λ c κs. omega arith) new-entry-requires (λ c. search rules) (λ c. omega arith) (λ c. omega arith) (λ c. omega arith) (λ c. omega arith)
-    (λ c. search rules) (λ c. (at_loop c.before.before.before).loop.inv.num_written.long)
-    (λ c. (at_loop c.before.before.before).loop.inv.den-written.long) returns (λ c. omega arith) (λ c. omega arith) loop-again
-    (λ c. c.before.loop.invariant.num_written.long) (λ c. c.before.loop.invariant.den-written.long) returns-2)
+    (λ c. search rules) (λ c. (at_loop c.before.before).loop-c.invariant.num_written.long)
+    (λ c. (at_loop c.before.before).loop-c.invariant.den-written.long) returns (λ c. omega arith) (λ c. omega arith) loop-again
+    (λ c. c.loop-c.invariant.num_written.long) (λ c. c.loop-c.invariant.den-written.long) returns-2)

@@ -1,6 +1,5 @@
 -- Before the turn at i the rows from f up to i are new and the others old, so the turn mixes the old row i and the old
 -- row after it. Assumes nothing.
-use borrow.Author.Tests.{not-true, not-false}
 use mathlib.Core.Path.{◌≡◌, refl, sym, ◌∙◌, ap, ap₂, subst}
 use mathlib.Core.Bool.{Bool, true, false, false≢true}
 use mathlib.Core.List.{List, [], ◌∷◌, ◌++◌}
@@ -48,10 +47,10 @@ record Inv (num₀ den₀ : List ℤ) (ws : Fractions) (f l rows columns : ℕ) 
   den_long : length dens ≡ length den₀
   state : (t : Table) (j : ℕ) (qs : List ℚ) → Holds num₀ den₀ t → Shaped t rows columns → ws ≡ fractions qs → State num₀ den₀ num dens f i t j qs
 
-abbrev invariant-loop : tie.invariant-loop
+abbrev invariant-loop : tie.invariant-loop-i
 invariant-loop num₀ den₀ f l rows columns ws i₀ num den i = Inv num₀ den₀ ws f l rows columns num den i
 
-abbrev decreases-loop : tie.decreases-loop
+abbrev decreases-loop : tie.decreases-loop-i
 decreases-loop num₀ den₀ f l rows columns ws i₀ num den i = l - i
 
 -- ---- one turn, in the definitions' terms
@@ -68,10 +67,10 @@ module _ {num₀ den₀ num dens : List ℤ} {f i rows columns : ℕ} {t : Table
   holds = holds-left num₀ den₀ current h.num_long h.den_long st.num_is st.den_is st.fit
 
   current_length : length current ≡ rows
-  current_length = renewed_length f t st.new i order (omega (arith, shaped.row_count)) count ∙ shaped.row_count
+  current_length = renewed_length f t st.new i order (omega (arith, shaped.row_count_lem)) count ∙ shaped.row_count_lem
 
   old : (k : ℕ) → i ≤ k → row current k ≡ row t k
-  old k = renewed_old f t st.new i order (omega (arith, shaped.row_count)) count k
+  old k = renewed_old f t st.new i order (omega (arith, shaped.row_count_lem)) count k
 
   current_wide : length (row current i) ≡ columns
   current_wide = ap length (old i (omega arith)) ∙ shaped.wide i (omega arith)
@@ -97,7 +96,7 @@ module _ {num₀ den₀ num dens : List ℤ} {f i rows columns : ℕ} {t : Table
   }
     where
       next : set current i r ≡ renewed f t (st.new ++ (r ∷ [])) (i + 1)
-      next = renewed_more f t st.new i order (omega (arith, shaped.row_count)) count r (omega (arith, shaped.row_count))
+      next = renewed_more f t st.new i order (omega (arith, shaped.row_count_lem)) count r (omega (arith, shaped.row_count_lem))
           ∙ ap (renewed f t (st.new ++ (r ∷ []))) (let z : suc i ≡ i + 1 = omega arith in z)
   goes_on_lem b num' dens' (refusal code place) e d left = absurd (false≢true (sym left.0 ∙ d))
 
@@ -131,25 +130,25 @@ finished {num₀} {den₀} {num} {dens} {f} {i} {t} {j} {qs} l e st =
 -- ---- the turn that the code takes
 
 -- where the first factor of two is read
-abbrev first : tie.After-fraction-at2 invariant-loop decreases-loop → tie.After-fraction-at invariant-loop decreases-loop
-first c = c.before.before.before.before
+abbrev first : tie.After-fraction_at-v invariant-loop decreases-loop → tie.After-fraction_at-w invariant-loop decreases-loop
+first c = c.before.before.before
 
 -- the turn in which it is read
-abbrev turn-of : tie.After-fraction-at invariant-loop decreases-loop → tie.In-loop invariant-loop decreases-loop
-turn-of c = c.before.before.before.before
+abbrev turn-of : tie.After-fraction_at-w invariant-loop decreases-loop → tie.In-loop-i invariant-loop decreases-loop
+turn-of c = c.before.before.before
 
 -- where the two factors of a row that is mixed are read
-abbrev factors : tie.After-mix-row invariant-loop decreases-loop → tie.After-fraction-at2 invariant-loop decreases-loop
+abbrev factors : tie.After-mix_row-done invariant-loop decreases-loop → tie.After-fraction_at-v invariant-loop decreases-loop
 factors m = m.before.before.before.before
 
 -- the turn of a row that is mixed
-abbrev turn : tie.After-mix-row invariant-loop decreases-loop → tie.In-loop invariant-loop decreases-loop
+abbrev turn : tie.After-mix_row-done invariant-loop decreases-loop → tie.In-loop-i invariant-loop decreases-loop
 turn m = turn-of (first (factors m))
 
-abbrev at_loop : tie.After-mix-row invariant-loop decreases-loop → tie.At-loop invariant-loop decreases-loop
+abbrev at_loop : tie.After-mix_row-done invariant-loop decreases-loop → tie.At-loop-i invariant-loop decreases-loop
 at_loop m = (turn m).before
 
-abbrev start : tie.After-mix-row invariant-loop decreases-loop → tie.Start invariant-loop decreases-loop
+abbrev start : tie.After-mix_row-done invariant-loop decreases-loop → tie.Start invariant-loop decreases-loop
 start m = (at_loop m).before
 
 -- the bounds in a turn
@@ -160,39 +159,39 @@ record Room (f l rows columns i : ℕ) : Type 0 where
   room : rows ≤ 72
   columns-fit : columns ≤ 72
 
-room : (r : tie.In-loop invariant-loop decreases-loop) → Room r.before.before.args.f r.before.before.args.l r.before.before.args.rows r.before.before.args.columns r.before.loop.i
+room : (r : tie.In-loop-i invariant-loop decreases-loop) → Room r.args.f r.args.l r.args.rows r.args.columns r.loop-i.i
 room r = record { order = omega arith; taken = omega arith; rows_fit = omega arith; room = omega arith; columns-fit = omega arith }
 
-module _ (m : tie.After-mix-row invariant-loop decreases-loop) (t : Table) (j : ℕ) (qs : List ℚ) (h : Holds (start m).args.num.now (start m).args.den.now t)
-    (shaped : Shaped t (start m).args.rows (start m).args.columns) (e : (start m).args.t3 ≡ fractions qs) where
-  st : State (start m).args.num.now (start m).args.den.now (at_loop m).loop.num (at_loop m).loop.den (start m).args.f (at_loop m).loop.i t j qs
-  st = (at_loop m).loop.invariant.state t j qs h shaped e
+module _ (m : tie.After-mix_row-done invariant-loop decreases-loop) (t : Table) (j : ℕ) (qs : List ℚ) (h : Holds (start m).args.num.now (start m).args.den.now t)
+    (shaped : Shaped t (start m).args.rows (start m).args.columns) (e : (start m).args.ws ≡ fractions qs) where
+  st : State (start m).args.num.now (start m).args.den.now (at_loop m).loop-i.num (at_loop m).loop-i.den (start m).args.f (at_loop m).loop-i.i t j qs
+  st = (at_loop m).loop-i.invariant.state t j qs h shaped e
 
-  order : (start m).args.f ≤ (at_loop m).loop.i
-  order = (at_loop m).loop.inv.passed
+  order : (start m).args.f ≤ (at_loop m).loop-i.i
+  order = (at_loop m).loop-i.invariant.passed
 
-  inside : (at_loop m).loop.i + 1 < (start m).args.rows
+  inside : (at_loop m).loop-i.i + 1 < (start m).args.rows
   inside = let r = room (turn m) in omega arith
 
   -- the two factors that are read
-  w_is : value (first (factors m)).fraction-at.result ≡ entry qs ((at_loop m).loop.i - (start m).args.f)
-  w_is = ap value ((first (factors m)).fraction-at.ensures qs e) ∙ value-fraction _
+  w_is : value (first (factors m)).fraction_at-w.result ≡ entry qs ((at_loop m).loop-i.i - (start m).args.f)
+  w_is = ap value ((first (factors m)).fraction_at-w.ensures qs e) ∙ value-fraction _
 
-  v_is : value (factors m).fraction-at2.result ≡ entry qs (suc ((at_loop m).loop.i - (start m).args.f))
-  v_is = ap value ((factors m).fraction-at2.ensures qs e) ∙ value-fraction _ ∙ ap (entry qs) (add-one ((at_loop m).loop.i - (start m).args.f))
+  v_is : value (factors m).fraction_at-v.result ≡ entry qs (suc ((at_loop m).loop-i.i - (start m).args.f))
+  v_is = ap value ((factors m).fraction_at-v.ensures qs e) ∙ value-fraction _ ∙ ap (entry qs) (add-one ((at_loop m).loop-i.i - (start m).args.f))
 
-  leaves : LeavesIf (with_answer (set (current h shaped order inside st) (at_loop m).loop.i)
-      (made j qs t (start m).args.f ((at_loop m).loop.i - (start m).args.f))) m.mix-row.result (at_loop m).loop.num (at_loop m).loop.den
-      m.mix-row.last.0 m.mix-row.last.1.0
+  leaves : LeavesIf (with_answer (set (current h shaped order inside st) (at_loop m).loop-i.i)
+      (made j qs t (start m).args.f ((at_loop m).loop-i.i - (start m).args.f))) m.mix_row-done.result (at_loop m).loop-i.num (at_loop m).loop-i.den
+      m.mix_row-done.new.num m.mix_row-done.new.den
   leaves =
       let cur = current h shaped order inside st in
-      subst (λ (o : Outcome Row). LeavesIf (with_answer (set cur (at_loop m).loop.i) o) m.mix-row.result (at_loop m).loop.num (at_loop m).loop.den
-      m.mix-row.last.0 m.mix-row.last.1.0)
+      subst (λ (o : Outcome Row). LeavesIf (with_answer (set cur (at_loop m).loop-i.i) o) m.mix_row-done.result (at_loop m).loop-i.num (at_loop m).loop-i.den
+      m.mix_row-done.new.num m.mix_row-done.new.den)
       (row_is h shaped order inside st _ _ w_is v_is)
-      (m.mix-row.ensures cur j _ (holds h shaped order inside st) m.before.before.before.complement.ensures.0
+      (m.mix_row-done.ensures cur j _ (holds h shaped order inside st) m.complement-u.ensures.0
       (omega (arith, current_length h shaped order inside st, inside)) (current_wide h shaped order inside st))
 
-loop-holds : tie.Need-loop-init invariant-loop decreases-loop
+loop-holds : tie.Need-loop-i-init invariant-loop decreases-loop
 loop-holds c = record {
   passed = omega arith;
   within = c.requires.0.0;
@@ -207,53 +206,53 @@ loop-holds c = record {
   };
 }
 
-complement-requires : tie.Need-complement-requires invariant-loop decreases-loop
+complement-requires : tie.Need-complement-u-requires invariant-loop decreases-loop
 complement-requires c κs =
-    let u = (turn-of (first c)).before.before.pre.1 in
-    record { of = _; is = c.fraction-at2.ensures u.of u.is; fit = u.fit _; low = u.low _; high = u.high _ }
+    let u = (turn-of (first c)).requires.1 in
+    record { of = _; is = c.fraction_at-v.ensures u.of u.is; fit = u.fit _; low = u.low _; high = u.high _ }
 
-mix-row-requires : tie.Need-mix-row-requires invariant-loop decreases-loop
+mix-row-requires : tie.Need-mix_row-done-requires invariant-loop decreases-loop
 mix-row-requires c κs =
     let x = first c.before.before.before in
     let r = turn-of x in
-    let s = r.before.before in
-    let v = r.before.loop.inv in
-    let u = s.pre.1 in
-    let k = s.pre.0.1.1 in
+    let s = r in
+    let v = r.loop-i.invariant in
+    let u = s.requires.1 in
+    let k = s.requires.0.1.1 in
     let b = room r in (
-      (subst FractionFits (sym (x.fraction-at.ensures u.of u.is)) (fits-sized _ (u.fit _)), (c.before.before.complement.ensures.1, (omega arith, b.columns-fit))),
+      (subst FractionFits (sym (x.fraction_at-w.ensures u.of u.is)) (fits-sized _ (u.fit _)), (c.complement-u.ensures.1, (omega arith, b.columns-fit))),
       (_, holds k.holds k.shaped v.passed (omega arith) (v.state k.table 0 u.of k.holds k.shaped u.is)),
     )
 
-returns : tie.Need-returns invariant-loop decreases-loop
+returns : tie.Need-returns-then-not-done invariant-loop decreases-loop
 returns c t j qs h shaped e =
-    let m = c.before.before.before in
-    ends h shaped (order m t j qs h shaped e) (inside m t j qs h shaped e) (st m t j qs h shaped e) (start m).args.l
-    (turn m).loop-test.true
-    m.mix-row.result m.mix-row.new.0 m.mix-row.new.1.0 _ refl (not-true _ c.if1.true) (leaves m t j qs h shaped e)
+    let m = c in
+    ends h shaped (order m.before.before.before t j qs h shaped e) (inside m.before.before.before t j qs h shaped e) (st m.before.before.before t j qs h shaped e) (start m.before.before.before).args.l
+    (turn m.before.before.before).loop-i-test.true
+    m.mix_row-done.result m.mix_row-done.new.num m.mix_row-done.new.den _ refl c.if-not-done.true (leaves m.before.before.before t j qs h shaped e)
 
-loop-again : tie.Need-loop-preserved invariant-loop decreases-loop
+loop-again : tie.Need-loop-i-preserved invariant-loop decreases-loop
 loop-again c =
-    let m = c.before.before.before in
-    let b = room (turn m) in
-    let v = (at_loop m).loop.invariant in
+    let m = c in
+    let b = room (turn m.before.before.before) in
+    let v = (at_loop m.before.before.before).loop-i.invariant in
     record {
       passed = omega arith;
       within = omega arith;
-      num_long = m.mix-row.auto.0 ∙ v.num_long;
-      den_long = m.mix-row.auto.1.0 ∙ v.den_long;
+      num_long = m.mix_row-done.auto.num ∙ v.num_long;
+      den_long = m.mix_row-done.auto.den ∙ v.den_long;
       state = λ t j qs h shaped e.
-          goes_on_lem h shaped (order m t j qs h shaped e) (inside m t j qs h shaped e) (st m t j qs h shaped e)
-          m.mix-row.result m.mix-row.new.0 m.mix-row.new.1.0 _ refl (not-false _ c.if1.false) (leaves m t j qs h shaped e);
+          goes_on_lem h shaped (order m.before.before.before t j qs h shaped e) (inside m.before.before.before t j qs h shaped e) (st m.before.before.before t j qs h shaped e)
+          m.mix_row-done.result m.mix_row-done.new.num m.mix_row-done.new.den _ refl c.if-not-done.false (leaves m.before.before.before t j qs h shaped e);
     }
 
-returns-2 : tie.Need-returns-2 invariant-loop decreases-loop
-returns-2 c t j qs h shaped e = finished c.before.before.args.l (omega arith) (c.before.loop.invariant.state t j qs h shaped e)
+returns-2 : tie.Need-returns invariant-loop decreases-loop
+returns-2 c t j qs h shaped e = finished c.args.l (omega arith) (c.loop-i.invariant.state t j qs h shaped e)
 
-pub mix-rows-spec : {M : Type 1} → statement M
-mix-rows-spec =
-    tie.close (tie.spec invariant-loop decreases-loop loop-holds (λ c. omega arith) (λ c κs. let b = room c.before.before.before in omega arith) (λ c. omega arith)
-    (λ c κs. let b = room (turn-of c.before.before.before) in omega arith) complement-requires mix-row-requires
-    (λ c. let m = c.before.before.before in m.mix-row.auto.0 ∙ (at_loop m).loop.invariant.num_long)
-    (λ c. let m = c.before.before.before in m.mix-row.auto.1.0 ∙ (at_loop m).loop.invariant.den_long) returns (λ c. omega arith)
-    (λ c. omega arith) loop-again (λ c. c.before.loop.invariant.num_long) (λ c. c.before.loop.invariant.den_long) returns-2)
+pub mix_rows_spec : {M : Type 1} → statement M
+mix_rows_spec =
+    tie.close (tie.spec invariant-loop decreases-loop loop-holds (λ c. omega arith) (λ c κs. let b = room c.before.before in omega arith) (λ c. omega arith)
+    (λ c κs. let b = room (turn-of c.before.before) in omega arith) complement-requires mix-row-requires
+    (λ c. let m = c in m.mix_row-done.auto.num ∙ (at_loop m.before.before.before).loop-i.invariant.num_long)
+    (λ c. let m = c in m.mix_row-done.auto.den ∙ (at_loop m.before.before.before).loop-i.invariant.den_long) returns (λ c. omega arith)
+    (λ c. omega arith) loop-again (λ c. c.loop-i.invariant.num_long) (λ c. c.loop-i.invariant.den_long) returns-2)

@@ -14,8 +14,8 @@ use Rattle.build_scales.proofs.binomial.Tie as tie
 returns : tie.Need-returns
 unfolding tab binomial
 returns c =
-    to_z-of_z w64 _ (record { sfits = c.result.given })
+    to_z-of_z w64 _ (record { sfits = c.result-2-1.given })
     ∙ tab_get_d_get_d 3 3 (λ a b. pos (binomial a b)) c.before.args.k c.before.args.t (pos 0) (omega arith) (omega arith)
 
-pub binomial-spec : {M : Type 1} → statement M
-binomial-spec = tie.close (tie.spec (λ c. search rules) (λ c. search rules) (λ c. search rules) (λ c. search rules) returns)
+pub binomial_spec : {M : Type 1} → statement M
+binomial_spec = tie.close (tie.spec (λ c. search rules) (λ c. search rules) (λ c. search rules) (λ c. search rules) returns)

@@ -14,8 +14,8 @@ use Rattle.build_scales.proofs.falling.Tie as tie
 returns : tie.Need-returns
 unfolding tab falling
 returns c =
-    to_z-of_z w64 _ (record { sfits = c.result.given })
+    to_z-of_z w64 _ (record { sfits = c.result-2-1.given })
     ∙ tab_get_d_get_d 6 3 (λ a b. pos (falling a b)) c.before.args.p c.before.args.k (pos 0) (omega arith) (omega arith)
 
-pub falling-spec : {M : Type 1} → statement M
-falling-spec = tie.close (tie.spec (λ c. search rules) (λ c. search rules) (λ c. search rules) (λ c. search rules) returns)
+pub falling_spec : {M : Type 1} → statement M
+falling_spec = tie.close (tie.spec (λ c. search rules) (λ c. search rules) (λ c. search rules) (λ c. search rules) returns)

@@ -11,23 +11,23 @@ use Rattle.build_scales.proofs.Sizes.{scale_le}
 use Rattle.build_scales.proofs.scale.Statement.{statement}
 use Rattle.build_scales.proofs.scale.Tie as tie
 
-module _ (c : tie.After-power) where
-  falling-fits : SFits w64 c.before.falling.result
-  falling-fits = record { sfits = c.before.falling.type-inv }
+module _ (c : tie.After-power-x) where
+  falling-fits : SFits w64 c.before.falling-f.result
+  falling-fits = record { sfits = c.before.falling-f.type_inv }
 
-  power-fits : SFits w64 c.power.result
-  power-fits = record { sfits = c.power.type-inv }
+  power-fits : SFits w64 c.power-x.result
+  power-fits = record { sfits = c.power-x.type_inv }
 
-  is : c.before.falling.result *ℤ c.power.result ≡ pos (scale c.before.before.args.p c.before.before.args.k (nat_abs c.before.before.args.other))
-  is = let f = c.before.before.ranges.other in ap₂ ◌*ℤ◌ c.before.falling.ensures (simp to_z-of_z at c.power.ensures)
+  is : c.before.falling-f.result *ℤ c.power-x.result ≡ pos (scale c.before.before.args.p c.before.before.args.k (nat_abs c.before.before.args.other))
+  is = let f = c.before.before.ranges.other in ap₂ ◌*ℤ◌ c.before.falling-f.ensures (simp to_z-of_z at c.power-x.ensures)
 
-  fits : SFits w64 (c.before.falling.result *ℤ c.power.result)
+  fits : SFits w64 (c.before.falling-f.result *ℤ c.power-x.result)
   fits =
       let b = c.before.before in
       rw is (sfits_abs (omega (arith, scale_le b.args.p b.args.k (nat_abs b.args.other) b.requires.degree b.requires.order b.requires.short)))
 
-pub scale-spec : {M : Type 1} → statement M
-scale-spec =
+pub scale_spec : {M : Type 1} → statement M
+scale_spec =
     tie.close (tie.spec (λ c κs. search rules) (λ c κs. search rules)
     (λ c. let f = falling-fits c in let g = power-fits c in simp to_z-of_z (fits c))
     (λ c. let f = falling-fits c in let g = power-fits c in let h = fits c in simp to_z-of_z (is c)))

@@ -13,30 +13,30 @@ use Rattle.build_scales.proofs.Sizes.{alternating_even, alternating_odd, signed_
 use Rattle.build_scales.proofs.signed_binomial.Statement.{statement}
 use Rattle.build_scales.proofs.signed_binomial.Tie as tie
 
-returns : tie.Need-returns
+returns : tie.Need-returns-then-k-t-eq0
 returns c =
     let b = c.before.before.args in
-    to_z-of_z w64 _ (record { sfits = c.before.binomial.type-inv })
-    ∙ c.before.binomial.ensures
+    to_z-of_z w64 _ (record { sfits = c.before.binomial-b.type_inv })
+    ∙ c.before.binomial-b.ensures
     ∙ sym (ap (λ z. pos (binomial b.k b.t) *ℤ z) (alternating_even (b.k - b.t) (omega arith)) ∙ *_one (pos (binomial b.k b.t)))
 
-module _ (c : tie.Else1) where
-  result_fits : SFits w64 c.before.binomial.result
-  result_fits = record { sfits = c.before.binomial.type-inv }
+module _ (c : tie.Else-k-t-eq0) where
+  result_fits : SFits w64 c.before.binomial-b.result
+  result_fits = record { sfits = c.before.binomial-b.type_inv }
 
-  negated : pos 0 -ℤ c.before.binomial.result ≡ signed_binomial c.before.before.args.k c.before.before.args.t
+  negated : pos 0 -ℤ c.before.binomial-b.result ≡ signed_binomial c.before.before.args.k c.before.before.args.t
   negated =
       let b = c.before.before.args in
-      ap (λ (z : ℤ). pos 0 -ℤ z) c.before.binomial.ensures
+      ap (λ (z : ℤ). pos 0 -ℤ z) c.before.binomial-b.ensures
       ∙ +ℤ_idl (neg_ℤ (pos (binomial b.k b.t)))
       ∙ neg_is (pos (binomial b.k b.t))
       ∙ *-comm (negsuc 0) (pos (binomial b.k b.t))
       ∙ ap (λ z. pos (binomial b.k b.t) *ℤ z) (sym (alternating_odd (b.k - b.t) (omega arith)))
 
-  negated_fits : SFits w64 (pos 0 -ℤ c.before.binomial.result)
+  negated_fits : SFits w64 (pos 0 -ℤ c.before.binomial-b.result)
   negated_fits = let b = c.before.before in rw negated (sfits_abs (omega (arith, signed-binomial_le b.args.k b.args.t b.requires.1)))
 
-pub signed-binomial-spec : {M : Type 1} → statement M
-signed-binomial-spec =
+pub signed_binomial_spec : {M : Type 1} → statement M
+signed_binomial_spec =
     tie.close (tie.spec (λ c κs. search rules) (λ c. search rules) (λ c. let f = result_fits c in simp to_z-of_z (negated_fits c)) returns
     (λ c. let f = result_fits c in let g = negated_fits c in simp to_z-of_z (negated c)))

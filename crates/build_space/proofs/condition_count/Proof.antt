@@ -12,13 +12,13 @@ use Rattle.build_space.proofs.Bounds.{condition_count_is, condition_count-high}
 use Rattle.build_space.proofs.condition_count.Statement.{statement}
 use Rattle.build_space.proofs.condition_count.Tie as tie
 
-order-fits : (c : tie.After-result) → SFits w32 (get_or c.before.args.orders.now c.before.args.i (pos 0))
-order-fits c = record { sfits = c.result.given }
+order-fits : (c : tie.After-result-1) → SFits w32 (get_or c.before.args.orders.now c.before.args.i (pos 0))
+order-fits c = record { sfits = c.result-1.given }
 
 count_fits : (c : tie.Start) → SFits w32 (get_or c.args.orders.now c.args.i (pos 0) +ℤ pos 1)
 count_fits c = sfits_abs (omega (arith, condition_count-high (space [] [] c.args.orders.now) c.requires.1 c.args.i c.requires.0))
 
-cast-result : tie.Need-overflow-cast-result
+cast-result : tie.Need-overflow_cast-result
 cast-result c =
     let f = order-fits c in
     let g = count_fits c.before in
@@ -26,7 +26,7 @@ cast-result c =
     let s = space [] [] c.before.args.orders.now in
     simp to_z-of_z (rw (condition_count_is s c.before.requires.1 i c.before.requires.0) (tt, omega (arith, condition_count-high s c.before.requires.1 i c.before.requires.0)))
 
-pub condition-count-spec : {M : Type 1} → statement M
-condition-count-spec =
+pub condition_count_spec : {M : Type 1} → statement M
+condition_count_spec =
     tie.close (tie.spec (λ c. search rules) (λ c. search rules) (λ c. let f = order-fits c in simp to_z-of_z (count_fits c.before))
     cast-result (λ c. let f = order-fits c in let g = count_fits c.before in simp to_z-of_z))

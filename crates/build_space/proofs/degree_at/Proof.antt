@@ -14,10 +14,10 @@ use Rattle.build_space.proofs.Bounds.{degree-high}
 use Rattle.build_space.proofs.degree_at.Statement.{statement}
 use Rattle.build_space.proofs.degree_at.Tie as tie
 
-fits : (c : tie.After-result) → SFits w32 (get_or c.before.args.degrees.now c.before.args.i (pos 0))
-fits c = record { sfits = c.result.given }
+fits : (c : tie.After-result-1) → SFits w32 (get_or c.before.args.degrees.now c.before.args.i (pos 0))
+fits c = record { sfits = c.result-1.given }
 
-cast-result : tie.Need-overflow-cast-result
+cast-result : tie.Need-overflow_cast-result
 cast-result c =
     let f = fits c in
     let d = c.before.args.degrees.now in
@@ -27,5 +27,5 @@ cast-result c =
       omega (arith, degree-high (space [] d []) c.before.requires.1 i c.before.requires.0),
     )
 
-pub degree-at-spec : {M : Type 1} → statement M
-degree-at-spec = tie.close (tie.spec (λ c. search rules) (λ c. search rules) cast-result (λ c. search rules))
+pub degree_at_spec : {M : Type 1} → statement M
+degree_at_spec = tie.close (tie.spec (λ c. search rules) (λ c. search rules) cast-result (λ c. search rules))

@@ -7,7 +7,7 @@ use Rattle.build_space.proofs.is_discontinuity.Statement.{statement}
 use Rattle.build_space.proofs.is_discontinuity.Tie as tie
 
 returns : tie.Need-returns
-returns c = let a = c.before.args in discontinuity_test (space [] [] a.orders.now) a.i (record { sfits = c.order.given })
+returns c = let a = c.before.args in discontinuity_test (space [] [] a.orders.now) a.i (record { sfits = c.order-1.given })
 
-pub is-discontinuity-spec : {M : Type 1} → statement M
-is-discontinuity-spec = tie.close (tie.spec (λ c. search rules) (λ c. search rules) returns)
+pub is_discontinuity_spec : {M : Type 1} → statement M
+is_discontinuity_spec = tie.close (tie.spec (λ c. search rules) (λ c. search rules) returns)

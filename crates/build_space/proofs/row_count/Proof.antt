@@ -12,19 +12,19 @@ use Rattle.build_space.proofs.Partial.{column-count_partial, conditions-before_p
 use Rattle.build_space.proofs.row_count.Statement.{statement}
 use Rattle.build_space.proofs.row_count.Tie as tie
 
-module _ (c : tie.After-conditions-before) where
+module _ (c : tie.After-conditions_before-conditions) where
   abbrev joined : Space
   joined = space [] c.before.before.args.degrees.now c.before.before.args.orders.now
 
-  columns : c.before.first-column.result ≡ column_count joined
-  columns = c.before.first-column.ensures ∙ column-count_partial [] joined.degrees joined.orders
+  columns : c.before.first_column-columns.result ≡ column_count joined
+  columns = c.before.first_column-columns.ensures ∙ column-count_partial [] joined.degrees joined.orders
 
-  conditions : c.conditions-before.result ≡ conditions_before joined (length joined.degrees - 1)
-  conditions = c.conditions-before.ensures ∙ conditions-before_partial [] joined.degrees joined.orders (length joined.orders)
+  conditions : c.conditions_before-conditions.result ≡ conditions_before joined (length joined.degrees - 1)
+  conditions = c.conditions_before-conditions.ensures ∙ conditions-before_partial [] joined.degrees joined.orders (length joined.orders)
       ∙ ap (conditions_before joined) (let e : length joined.orders ≡ length joined.degrees - 1 = omega (arith, c.before.before.requires.count) in e)
 
-pub row-count-spec : {M : Type 1} → statement M
-row-count-spec =
+pub row_count_spec : {M : Type 1} → statement M
+row_count_spec =
     tie.close (tie.spec (λ c κs. search rules) (λ c κs. search rules)
     (λ c. omega (arith, columns c, conditions c, row-count-sum (joined c) c.before.before.requires))
     (λ c. ap₂ ◌-◌ (columns c) (conditions c)))

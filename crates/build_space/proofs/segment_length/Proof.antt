@@ -16,11 +16,11 @@ use Rattle.build_space.proofs.Bounds.{breaks_apart, width-difference}
 use Rattle.build_space.proofs.segment_length.Statement.{statement}
 use Rattle.build_space.proofs.segment_length.Tie as tie
 
-start_fits : (c : tie.After-start) → SFits w32 (get_or c.before.args.breaks.now c.before.args.i (pos 0))
-start_fits c = record { sfits = c.start.given }
+start_fits : (c : tie.After-start-1) → SFits w32 (get_or c.before.args.breaks.now c.before.args.i (pos 0))
+start_fits c = record { sfits = c.start-1.given }
 
-end_fits : (c : tie.After-end) → SFits w32 (get_or c.before.before.args.breaks.now (c.before.before.args.i + 1) (pos 0))
-end_fits c = record { sfits = c.end.given }
+end_fits : (c : tie.After-end-1) → SFits w32 (get_or c.before.before.args.breaks.now (c.before.before.args.i + 1) (pos 0))
+end_fits c = record { sfits = c.end-1.given }
 
 abbrev difference : tie.Start → ℤ
 difference c = get_or c.args.breaks.now (c.args.i + 1) (pos 0) -ℤ get_or c.args.breaks.now c.args.i (pos 0)
@@ -39,13 +39,13 @@ fits-32 c = sfits_abs (omega (arith, difference-size c))
 fits-64 : (c : tie.Start) → SFits w64 (difference c)
 fits-64 c = sfits_abs (omega (arith, difference-size c))
 
-cast-result : tie.Need-overflow-cast-result
+cast-result : tie.Need-overflow_cast-result
 cast-result c = let f = start_fits c.before in let g = end_fits c in let h = fits-32 c.before.before in simp to_z-of_z (fits-64 c.before.before)
 
 returns : tie.Need-returns
 returns c = let f = start_fits c.before in let g = end_fits c in let h = fits-32 c.before.before in let k = fits-64 c.before.before in simp to_z-of_z (difference_is c.before.before)
 
-pub segment-length-spec : {M : Type 1} → statement M
-segment-length-spec =
+pub segment_length_spec : {M : Type 1} → statement M
+segment_length_spec =
     tie.close (tie.spec (λ c. search rules) (λ c. search rules) (λ c. search rules) (λ c. search rules) (λ c. search rules)
     (λ c. let f = start_fits c.before in let g = end_fits c in simp to_z-of_z (fits-32 c.before.before)) cast-result returns)

@@ -6,7 +6,7 @@ use Rattle.build_space.proofs.Tests.{starts-part-zero, starts-part-later}
 use Rattle.build_space.proofs.starts_part.Statement.{statement}
 use Rattle.build_space.proofs.starts_part.Tie as tie
 
-pub starts-part-spec : {M : Type 1} → statement M
-starts-part-spec =
-    tie.close (tie.spec (λ c. starts-part-zero _ _ c.if1.true) (λ c. search rules) (λ c κs. search rules)
-    (λ c. c.is-discontinuity.ensures ∙ starts-part-later _ _ c.before.if1.false))
+pub starts_part_spec : {M : Type 1} → statement M
+starts_part_spec =
+    tie.close (tie.spec (λ c. starts-part-zero _ _ c.if-i-eq0.true) (λ c. search rules) (λ c κs. search rules)
+    (λ c. c.is_discontinuity.ensures ∙ starts-part-later _ _ c.before.if-i-eq0.false))

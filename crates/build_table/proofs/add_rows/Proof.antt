@@ -19,13 +19,13 @@ returns c t m is size wide =
     let start = 72 * x.rows + x.column in
     let rest = drop start xs in
     let left = length xs - start in
-    ap (λ (l : List ℤ). take start xs ++ (l ++ drop left rest)) c.before.mark-diagonal.ensures
+    ap (λ (l : List ℤ). take start xs ++ (l ++ drop left rest)) c.before.mark_diagonal.ensures
     ∙ ap₂ (λ (l r : List ℤ). take start xs ++ (marked x.n l ++ r)) (take_whole left rest (omega (arith, length-drop start xs)))
     (drop_of_length-le rest {i = left} (omega (arith, length-drop start xs)))
     ∙ ap (λ (l : List ℤ). take start xs ++ l) (append-nil (marked x.n rest))
     ∙ rows-added t x.rows x.column x.n m wide size a.requires.0 a.requires.1.0 a.requires.1.1.0 xs a.requires.1.1.1 is
 
-pub add-rows-spec : {M : Type 1} → statement M
-add-rows-spec =
+pub add_rows_spec : {M : Type 1} → statement M
+add_rows_spec =
     tie.close (tie.spec (λ c. search rules) (λ c. search rules) (λ c. search rules) (λ c. search rules) (λ c. search rules)
     (λ c. search rules) (λ c κs. search rules) (λ c. search rules) returns)

@@ -98,6 +98,6 @@ returns c t h size =
           ∙ sym (denominators-laid _ _),
     )
 
-pub drop-row-spec : {M : Type 1} → statement M
-drop-row-spec = tie.close (tie.spec (λ c. search rules) (λ c. search rules) (λ c. search rules) (λ c κs. search rules) (λ c. search rules)
+pub drop_row_spec : {M : Type 1} → statement M
+drop_row_spec = tie.close (tie.spec (λ c. search rules) (λ c. search rules) (λ c. search rules) (λ c κs. search rules) (λ c. search rules)
     (λ c κs. search rules) (λ c. search rules) (λ c. search rules) returns)

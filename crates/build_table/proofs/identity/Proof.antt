@@ -4,8 +4,8 @@ use native.Mathlib.Omega.{arith}
 use Rattle.build_table.proofs.identity.Statement.{statement}
 use Rattle.build_table.proofs.identity.Tie as tie
 
-identity-over-requires : tie.Need-identity-over-requires
+identity-over-requires : tie.Need-identity_over-requires
 identity-over-requires c κs = (c.before.before.requires, (omega arith, record { zeros = λ k h l. absurd (omega arith); ones = λ k h l. absurd (omega arith) }))
 
-pub identity-spec : {M : Type 1} → statement M
-identity-spec = tie.close (tie.spec identity-over-requires (λ c. search rules) (λ c. search rules) (λ c. search rules))
+pub identity_spec : {M : Type 1} → statement M
+identity_spec = tie.close (tie.spec identity-over-requires (λ c. search rules) (λ c. search rules) (λ c. search rules))

@@ -96,12 +96,12 @@ returns : tie.Need-returns
 unfolding zeros
 returns c =
     let s = c.before.before.before.before.before.before.before.before in
-    let cleared = c.before.before.before.before.before.clear-rows.ensures in
+    let cleared = c.before.before.before.before.before.clear_rows.ensures in
     let a = s.args in
     let clear = s.requires.1.1 in (
-      c.before.mark-diagonal.ensures ∙ ap (marked a.n) cleared.0 ∙ num_is a.n a.used a.num.now (omega arith) (omega arith) (omega arith) clear.zeros,
+      c.before.mark_diagonal.ensures ∙ ap (marked a.n) cleared.0 ∙ num_is a.n a.used a.num.now (omega arith) (omega arith) (omega arith) clear.zeros,
       cleared.1 ∙ den_is a.n a.used a.den.now (omega arith) (omega arith) clear.ones,
     )
 
-pub identity-over-spec : {M : Type 1} → statement M
-identity-over-spec = tie.close (tie.spec (λ c κs. search rules) (λ c κs. search rules) (λ c. search rules) (λ c. search rules) returns)
+pub identity_over_spec : {M : Type 1} → statement M
+identity_over_spec = tie.close (tie.spec (λ c κs. search rules) (λ c κs. search rules) (λ c. search rules) (λ c. search rules) returns)

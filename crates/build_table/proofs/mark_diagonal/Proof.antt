@@ -15,15 +15,15 @@ record Inv (num₀ num : List ℤ) (n i : ℕ) : Type 0 where
   num_is : num ≡ marked i num₀
   num_long : length num ≡ length num₀
 
-abbrev invariant-loop : tie.invariant-loop
+abbrev invariant-loop : tie.invariant-loop-i
 invariant-loop num₀ n i₀ num i = Inv num₀ num n i
 
-abbrev decreases-loop : tie.decreases-loop
+abbrev decreases-loop : tie.decreases-loop-i
 decreases-loop num₀ n i₀ num i = n - i
 
-loop-again : tie.Need-loop-preserved invariant-loop decreases-loop
+loop-again : tie.Need-loop-i-preserved invariant-loop decreases-loop
 loop-again c =
-    let l = c.before.loop in
+    let l = c.before.loop-i in
     let v = l.invariant in
     record {
       within = omega arith;
@@ -34,11 +34,11 @@ loop-again c =
 returns : tie.Need-returns invariant-loop decreases-loop
 returns c =
     let s = c.before.before.args in
-    let v = c.before.loop.invariant in
-    let e : c.before.loop.i ≡ s.n = omega arith in
+    let v = c.before.loop-i.invariant in
+    let e : c.before.loop-i.i ≡ s.n = omega arith in
     v.num_is ∙ ap (λ (k : ℕ). marked k s.num.now) e
 
-pub mark-diagonal-spec : {M : Type 1} → statement M
-mark-diagonal-spec =
+pub mark_diagonal_spec : {M : Type 1} → statement M
+mark_diagonal_spec =
     tie.close (tie.spec invariant-loop decreases-loop (λ c. record { within = omega arith; num_is = marked-none _; num_long = refl }) (λ c. omega arith)
-    (λ c. omega arith) (λ c. omega arith) (λ c. omega arith) (λ c. omega arith) loop-again (λ c. c.before.loop.invariant.num_long) returns)
+    (λ c. omega arith) (λ c. omega arith) (λ c. omega arith) (λ c. omega arith) loop-again (λ c. c.before.loop-i.invariant.num_long) returns)

@@ -22,10 +22,10 @@ record Inv (num₀ den₀ num den : List ℤ) (from to k : ℕ) : Type 0 where
   num_long : length num ≡ length num₀
   den_long : length den ≡ length den₀
 
-abbrev invariant-loop : tie.invariant-loop
+abbrev invariant-loop : tie.invariant-loop-k
 invariant-loop num₀ den₀ from to k₀ num den k = Inv num₀ den₀ num den from to k
 
-abbrev decreases-loop : tie.decreases-loop
+abbrev decreases-loop : tie.decreases-loop-k
 decreases-loop num₀ den₀ from to k₀ num den k = to - k
 
 -- one turn in one buffer
@@ -35,15 +35,15 @@ turn xs₀ xs from k h l e =
     ∙ ap (λ v. set (moved from k xs₀) k v) (moved-after from k xs₀ (k + 72) (omega arith))
     ∙ moved_more from k xs₀ h l
 
-loop-holds : tie.Need-loop-init invariant-loop decreases-loop
+loop-holds : tie.Need-loop-k-init invariant-loop decreases-loop
 loop-holds c = record { passed = omega arith; within = c.requires.0; num_is = moved_none _ _; den_is = moved_none _ _; num_long = refl; den_long = refl }
 
-loop-again : tie.Need-loop-preserved invariant-loop decreases-loop
+loop-again : tie.Need-loop-k-preserved invariant-loop decreases-loop
 loop-again c =
-    let l = c.before.before.before.loop in
+    let l = c.before.before.before.loop-k in
     let v = l.invariant in
-    let x : SFits w64 (get_or l.num (l.k + 72) (pos 0)) = record { sfits = c.before.n.given } in
-    let y : SFits w64 (get_or l.den (l.k + 72) (pos 0)) = record { sfits = c.d.given } in
+    let x : SFits w64 (get_or l.num (l.k + 72) (pos 0)) = record { sfits = c.before.n-1.given } in
+    let y : SFits w64 (get_or l.den (l.k + 72) (pos 0)) = record { sfits = c.d-1.given } in
     record {
       passed = omega arith;
       within = omega arith;
@@ -56,8 +56,8 @@ loop-again c =
 returns : tie.Need-returns invariant-loop decreases-loop
 returns c =
     let s = c.before.before.args in
-    let v = c.before.loop.invariant in
-    let e : c.before.loop.k ≡ s.to = omega arith in (
+    let v = c.before.loop-k.invariant in
+    let e : c.before.loop-k.k ≡ s.to = omega arith in (
       v.num_is ∙ ap (λ (k : ℕ). moved s.from k s.num.now) e,
       v.den_is ∙ ap (λ (k : ℕ). moved s.from k s.den.now) e,
     )
@@ -66,4 +66,4 @@ pub move_up_spec : {M : Type 1} → statement M
 move_up_spec =
     tie.close (tie.spec invariant-loop decreases-loop loop-holds (λ c. omega arith) (λ c. omega arith) (λ c. omega arith) (λ c. omega arith)
     (λ c. omega arith) (λ c. omega arith) (λ c. omega arith) (λ c. omega arith) (λ c. omega arith) (λ c. omega arith) (λ c. omega arith)
-    loop-again (λ c. c.before.loop.invariant.num_long) (λ c. c.before.loop.invariant.den_long) returns)
+    loop-again (λ c. c.before.loop-k.invariant.num_long) (λ c. c.before.loop-k.invariant.den_long) returns)

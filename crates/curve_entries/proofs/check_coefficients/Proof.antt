@@ -22,48 +22,48 @@ abbrev joined : tie.Start → Space
 joined s = space [] s.args.degrees.now s.args.orders.now
 
 -- two numbers a row
-counted : (c : tie.Else1) → length c.before.before.args.coefs.now ≡ 2 * row_count (joined c.before.before)
-counted c = c.if1.false ∙ ap (λ (n : ℕ). 2 * n) c.before.row_count.ensures
+counted : (c : tie.Else-coefs-n) → length c.args.coefs.now ≡ 2 * row_count (joined c.before.before)
+counted c = c.if-coefs-n.false ∙ ap (λ (n : ℕ). 2 * n) c.row_count-n.ensures
 
-found-bad : (c : tie.After-bad) → let cs = c.before.before.before.before.before.args.coefs.now in first (length cs) (bad_coefficient cs) ≡ some c.bad.given.0.0
+found-bad : (c : tie.In-At) → let cs = c.args.coefs.now in first (length cs) (bad_coefficient cs) ≡ some c.in-At.i
 found-bad c =
-    let cs = c.before.before.before.before.before.args.coefs.now in
+    let cs = c.args.coefs.now in
     ap (first (length cs)) (coefficient-outside cs)
-    ∙ found_some_inverts _ (sym c.before.before.first-outside.ensures ∙ c.bad.given.1)
+    ∙ found_some_inverts _ (sym c.first_outside-bad.ensures ∙ c.in-At.is)
 
-none-bad : (c : tie.After-enum-told) → let cs = c.before.before.before.before.before.args.coefs.now in first (length cs) (bad_coefficient cs) ≡ none
+none-bad : (c : tie.In-Nothing) → let cs = c.args.coefs.now in first (length cs) (bad_coefficient cs) ≡ none
 none-bad c =
-    let cs = c.before.before.before.before.before.args.coefs.now in
+    let cs = c.args.coefs.now in
     ap (first (length cs)) (coefficient-outside cs)
-    ∙ found-none_inverts _ (sym c.before.before.first-outside.ensures ∙ c.enum_told.given.1)
+    ∙ found-none_inverts _ (sym c.first_outside-bad.ensures ∙ c.in-Nothing.is)
 
 -- at most six columns a segment
-mul-if1 : tie.Need-overflow-mul-if1
+mul-if1 : tie.Need-overflow_mul-n
 mul-if1 c =
     omega (
       arith,
-      c.row_count.ensures,
-      first-column-high (joined c.before) c.before.requires.degrees_legal (length c.before.args.degrees.now) (omega arith),
-      c.before.requires.few,
+      c.row_count-n.ensures,
+      first-column-high (joined c.before) c.requires.degrees_legal (length c.args.degrees.now) (omega arith),
+      c.requires.few,
     )
 
-returns : tie.Need-returns
+returns : tie.Need-returns-then-coefs-n
 returns c =
-    sym (refusal_refused _ (coefficients_count (joined c.before.before) c.before.before.args.coefs.now
-    (λ e. c.if1.true (e ∙ sym (ap (λ (n : ℕ). 2 * n) c.before.row_count.ensures)))))
+    sym (refusal_refused _ (coefficients_count (joined c.before.before) c.args.coefs.now
+    (λ e. c.if-coefs-n.true (e ∙ sym (ap (λ (n : ℕ). 2 * n) c.row_count-n.ensures)))))
 
-returns-2 : tie.Need-returns-2
+returns-2 : tie.Need-returns-in-At
 returns-2 c =
-    let b = c.before.before.before.before.before in let s = b.before.before in
-    sym (refusal_refused _ (coefficients_refused (joined s) s.args.coefs.now (counted b)
-    (found-bad c.before.before) ∙ ap (refusal 6) (sym c.place.ensures)))
+    let b = c in let s = b in
+    sym (refusal_refused _ (coefficients_refused (joined s.before.before.before.before.before) s.args.coefs.now (counted b.before.before.before)
+    (found-bad c.before) ∙ ap (refusal 6) (sym c.place.ensures)))
 
-returns-3 : tie.Need-returns-3
+returns-3 : tie.Need-returns-in-Nothing
 returns-3 c =
-    let s = c.before.before.before.before.before in
-    sym (answer_legal _ (coefficients_pass (joined s) s.args.coefs.now (counted c.before.before.before) (none-bad c)))
+    let s = c in
+    sym (answer_legal _ (coefficients_pass (joined s.before.before.before.before) s.args.coefs.now (counted c.before.before) (none-bad c)))
 
-pub check-coefficients-spec : {M : Type 1} → statement M
-check-coefficients-spec =
+pub check_coefficients_spec : {M : Type 1} → statement M
+check_coefficients_spec =
     tie.close (tie.spec (λ c κs. search rules) mul-if1 returns (λ c. search rules) (λ c κs. search rules) (λ c. search rules)
     (λ c κs. search rules) (λ c. search rules) returns-2 returns-3)

@@ -24,10 +24,10 @@ module _ (s : tie.Start) where
   break i = get_or s.args.breaks.now i (pos 0)
 
   break-fits : (i : ℕ) → i < length s.args.breaks.now → SFits w32 (break i)
-  break-fits i l = sfits_abs (omega (arith, s.pre.legal.size i l))
+  break-fits i l = sfits_abs (omega (arith, s.requires.legal.size i l))
 
   fine-fits : (i : ℕ) → i < length s.args.breaks.now → SFits w32 (fine (break i))
-  fine-fits i l = sfits_abs (omega (arith, abs_mul_le (pos 256) (break i) 256 10000 (omega arith) (s.pre.legal.size i l)))
+  fine-fits i l = sfits_abs (omega (arith, abs_mul_le (pos 256) (break i) 256 10000 (omega arith) (s.requires.legal.size i l)))
 
   -- a bound read back from its word
   bound : (i : ℕ) → i < length s.args.breaks.now → to_z w32 (of_z w32 (pos 256 *ℤ to_z w32 (of_z w32 (break i)))) ≡ fine (break i)
@@ -47,35 +47,35 @@ module _ (s : tie.Start) where
       sym (ap₂ (λ (l h : ℤ). first (length s.args.positions.now) (outside s.args.positions.now l h)) (bound 0 (omega arith))
       (bound s.args.m (omega arith)))
 
-mul_low : tie.Need-overflow-mul-low
+mul_low : tie.Need-overflow_mul-low
 mul_low c = let f = break-fits c.before 0 (omega arith) in simp to_z-of_z (fine-fits c.before 0 (omega arith))
 
-mul-high-2 : tie.Need-overflow-mul-high-2
+mul-high-2 : tie.Need-overflow_mul-high
 mul-high-2 c =
-    let s = c.before.before in let f = break-fits s s.args.m (omega arith) in simp to_z-of_z (fine-fits s s.args.m (omega arith))
+    let s = c in let f = break-fits s.before.before s.args.m (omega arith) in simp to_z-of_z (fine-fits s.before.before s.args.m (omega arith))
 
-found-bad : (c : tie.After-bad) → let s = c.before.before.before.before.before in searched s ≡ some c.bad.given.0.0
+found-bad : (c : tie.In-At) → let s = c in searched s.before.before.before.before ≡ some c.in-At.i
 found-bad c =
-    let s = c.before.before.before.before.before in as_words s
-    ∙ found_some_inverts _ (sym c.before.before.first-outside.ensures ∙ c.bad.given.1)
+    let s = c in as_words s.before.before.before.before
+    ∙ found_some_inverts _ (sym c.first_outside-bad.ensures ∙ c.in-At.is)
 
-none-bad : (c : tie.After-enum-told) → let s = c.before.before.before.before.before in searched s ≡ none
+none-bad : (c : tie.In-Nothing) → let s = c in searched s.before.before.before.before ≡ none
 none-bad c =
-    let s = c.before.before.before.before.before in as_words s
-    ∙ found-none_inverts _ (sym c.before.before.first-outside.ensures ∙ c.enum_told.given.1)
+    let s = c in as_words s.before.before.before.before
+    ∙ found-none_inverts _ (sym c.first_outside-bad.ensures ∙ c.in-Nothing.is)
 
-returns : tie.Need-returns
+returns : tie.Need-returns-in-At
 returns c =
-    let s = c.before.before.before.before.before.before.before in
-    sym (refusal_refused _ (positions_refused s.args.positions.now (fine (break s 0)) (fine (break s s.args.m))
-    (found-bad c.before.before) ∙ ap (refusal 7) (sym c.place.ensures)))
+    let s = c in
+    sym (refusal_refused _ (positions_refused s.args.positions.now (fine (break s.before.before.before.before.before 0)) (fine (break s.before.before.before.before.before s.args.m))
+    (found-bad c.before) ∙ ap (refusal 7) (sym c.place.ensures)))
 
-returns-2 : tie.Need-returns-2
+returns-2 : tie.Need-returns-in-Nothing
 returns-2 c =
-    let s = c.before.before.before.before.before in
-    sym (answer_legal _ (positions_pass s.args.positions.now (fine (break s 0)) (fine (break s s.args.m)) (none-bad c)))
+    let s = c in
+    sym (answer_legal _ (positions_pass s.args.positions.now (fine (break s.before.before.before.before 0)) (fine (break s.before.before.before.before s.args.m)) (none-bad c)))
 
-pub check-positions-spec : {M : Type 1} → statement M
-check-positions-spec =
+pub check_positions_spec : {M : Type 1} → statement M
+check_positions_spec =
     tie.close (tie.spec (λ c. search rules) mul_low (λ c. search rules) (λ c. search rules) mul-high-2 (λ c κs. search rules)
     (λ c. search rules) (λ c κs. search rules) (λ c. search rules) returns returns-2)

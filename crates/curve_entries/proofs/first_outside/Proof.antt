@@ -15,10 +15,10 @@ use Rattle.curve_entries.proofs.Entries.{below, above}
 use Rattle.curve_entries.proofs.first_outside.Statement.{statement}
 use Rattle.curve_entries.proofs.first_outside.Tie as tie
 
-abbrev invariant-loop : tie.invariant-loop
+abbrev invariant-loop : tie.invariant-loop-i
 invariant-loop list low high n i₀ i = (i ≤ n) × ((k : ℕ) → k < i → outside list (to_z w32 low) (to_z w32 high) k ≡ false)
 
-abbrev decreases-loop : tie.decreases-loop
+abbrev decreases-loop : tie.decreases-loop-i
 decreases-loop list low high n i₀ i = n - i
 
 -- the bounds read back from their words
@@ -28,47 +28,47 @@ module _ (s : tie.Start invariant-loop decreases-loop) where
   as_passed k = ap₂ (λ (l h : ℤ). outside s.args.list.now l h k) (to_z-of_z w32 _ s.ranges.low) (to_z-of_z w32 _ s.ranges.high)
 
 -- no entry before i
-good-before : (c : tie.At-loop invariant-loop decreases-loop) (k : ℕ) → k < c.loop.i
-    → outside c.before.args.list.now c.before.args.low c.before.args.high k ≡ false
-good-before c k l = sym (as_passed c.before k) ∙ c.loop.invariant.1 k l
+good-before : (c : tie.At-loop-i invariant-loop decreases-loop) (k : ℕ) → k < c.loop-i.i
+    → outside c.args.list.now c.args.low c.args.high k ≡ false
+good-before c k l = sym (as_passed c.before k) ∙ c.loop-i.invariant.1 k l
 
-x_fits : (c : tie.After-x invariant-loop decreases-loop)
-    → SFits w32 (get_or c.before.before.before.args.list.now c.before.before.loop.i (pos 0))
-x_fits c = record { sfits = c.x.given }
+x_fits : (c : tie.After-x-1 invariant-loop decreases-loop)
+    → SFits w32 (get_or c.args.list.now c.loop-i.i (pos 0))
+x_fits c = record { sfits = c.x-1.given }
 
-loop-again : tie.Need-loop-preserved invariant-loop decreases-loop
+loop-again : tie.Need-loop-i-preserved invariant-loop decreases-loop
 loop-again c =
-    let s = c.before.before.before.before.before in
+    let s = c in
     let f = x_fits c.before.before in
     let g = s.ranges.low in
     let h = s.ranges.high in (
       omega arith,
-      below_more _ _ c.before.before.before.before.loop.invariant.1
-          (as_passed s _ ∙ sym (above s.args.low s.args.high _ (simp to_z-of_z at c.before.if2.false))
-          ∙ (simp to_z-of_z at c.if3.false)),
+      below_more _ _ c.loop-i.invariant.1
+          (as_passed s.before.before.before.before.before _ ∙ sym (above s.args.low s.args.high _ (simp to_z-of_z at c.if-x-low.false))
+          ∙ (simp to_z-of_z at c.if-x-high.false)),
     )
 
-returns : tie.Need-returns invariant-loop decreases-loop
+returns : tie.Need-returns-then-i-n invariant-loop decreases-loop
 returns c = found_none _ _ (λ k l. good-before c.before k (omega arith))
 
-returns-2 : tie.Need-returns-2 invariant-loop decreases-loop
+returns-2 : tie.Need-returns-then-x-low invariant-loop decreases-loop
 returns-2 c =
-    let s = c.before.before.before.before in
+    let s = c in
     let f = x_fits c.before in
     let g = s.ranges.low in
-    found_at _ _ _ (omega arith) (sym (below s.args.low s.args.high _ (simp to_z-of_z at c.if2.true)))
+    found_at _ _ _ (omega arith) (sym (below s.args.low s.args.high _ (simp to_z-of_z at c.if-x-low.true)))
     (good-before c.before.before.before)
 
-returns-3 : tie.Need-returns-3 invariant-loop decreases-loop
+returns-3 : tie.Need-returns-then-x-high invariant-loop decreases-loop
 returns-3 c =
-    let s = c.before.before.before.before.before in
+    let s = c in
     let f = x_fits c.before.before in
     let g = s.ranges.low in
     let h = s.ranges.high in
-    found_at _ _ _ (omega arith) (sym (above s.args.low s.args.high _ (simp to_z-of_z at c.before.if2.false))
-    ∙ (simp to_z-of_z at c.if3.true)) (good-before c.before.before.before.before)
+    found_at _ _ _ (omega arith) (sym (above s.args.low s.args.high _ (simp to_z-of_z at c.if-x-low.false))
+    ∙ (simp to_z-of_z at c.if-x-high.true)) (good-before c.before.before.before.before)
 
-pub first-outside-spec : {M : Type 1} → statement M
-first-outside-spec =
+pub first_outside_spec : {M : Type 1} → statement M
+first_outside_spec =
     tie.close (tie.spec invariant-loop decreases-loop (λ c. (omega arith, below_none _)) (λ c. omega arith) (λ c. omega arith) (λ c. omega arith)
     (λ c. omega arith) loop-again returns returns-2 returns-3)

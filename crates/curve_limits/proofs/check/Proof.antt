@@ -21,46 +21,46 @@ module _ (s : tie.Start) where
   whole = space s.args.breaks.now s.args.degrees.now s.args.orders.now
 
 -- the lists, then the entries
-chained : (c : tie.Else2) → let s = c.before.before.before in
-    curve_checked (whole s) s.args.coefs.now s.args.positions.now
-    ≡ (checked (whole s) then λ legal. legal_entries legal s.args.coefs.now s.args.positions.now (answer legal))
+chained : (c : tie.Else-positions-gt-POSITION_LIMIT) → let s = c in
+    curve_checked (whole s.before.before.before) s.args.coefs.now s.args.positions.now
+    ≡ (checked (whole s.before.before.before) then λ legal. legal_entries legal s.args.coefs.now s.args.positions.now (answer legal))
 chained c =
-    let s = c.before.before.before in
-    curve_chain (whole s) s.args.coefs.now s.args.positions.now
-    (sym c.before.before.lengths-fit.ensures ∙ not-false _ c.before.if1.false) (omega arith)
+    let s = c in
+    curve_chain (whole s.before.before.before) s.args.coefs.now s.args.positions.now
+    (sym c.lengths_fit.ensures ∙ c.if-not-lengths_fit.false) (omega arith)
 
-lists : (c : tie.After-enum-told) → let s = c.before.before.before.before.before.before in
+lists : (c : tie.In-Legal) → let s = c in
     ListsLegal s.args.breaks.now s.args.degrees.now s.args.orders.now
-lists c = legality_legal _ _ _ (sym c.before.before.check.ensures ∙ c.enum_told.given.1)
+lists c = legality_legal _ _ _ (sym c.check-lists.ensures ∙ c.in-Legal.is)
 
-returns : tie.Need-returns
+returns : tie.Need-returns-then-not-lengths_fit
 returns c =
-    let s = c.before.before in
-    sym (refusal_refused _ (curve_lengths (whole s) s.args.coefs.now s.args.positions.now
-    (sym c.before.lengths-fit.ensures ∙ not-true _ c.if1.true)))
+    let s = c in
+    sym (refusal_refused _ (curve_lengths (whole s.before.before) s.args.coefs.now s.args.positions.now
+    (sym c.lengths_fit.ensures ∙ c.if-not-lengths_fit.true)))
 
-returns-2 : tie.Need-returns-2
+returns-2 : tie.Need-returns-then-positions-gt-POSITION_LIMIT
 returns-2 c =
-    let s = c.before.before.before in
-    sym (refusal_refused _ (curve_positions (whole s) s.args.coefs.now s.args.positions.now
-    (sym c.before.before.lengths-fit.ensures ∙ not-false _ c.before.if1.false) (omega arith)))
+    let s = c in
+    sym (refusal_refused _ (curve_positions (whole s.before.before.before) s.args.coefs.now s.args.positions.now
+    (sym c.lengths_fit.ensures ∙ c.if-not-lengths_fit.false) (omega arith)))
 
-returns-3 : tie.Need-returns-3
+returns-3 : tie.Need-returns-in-Refused
 returns-3 c =
-    let s = c.before.before.before.before.before.before.before in
-    sym (refusal_refused _ (chained c.before.before.before.before
+    let s = c in
+    sym (refusal_refused _ (chained c.before.before
     ∙ then_refuses (λ legal. legal_entries legal s.args.coefs.now s.args.positions.now (answer legal))
-    (refused_refuses _ (sym c.before.before.before.check.ensures ∙ c.before.lists.given.1))))
+    (refused_refuses _ (sym c.check-lists.ensures ∙ c.in-Refused.is))))
 
-returns-4 : tie.Need-returns-4
+returns-4 : tie.Need-returns-in-Legal
 returns-4 c =
-    let s = c.before.before.before.before.before.before.before in
-    c.check-entries.ensures ∙ sym (ap legality
-    (chained c.before.before.before.before
+    let s = c in
+    c.check_entries.ensures ∙ sym (ap legality
+    (chained c.before.before.before
     ∙ then_answers (λ legal. legal_entries legal s.args.coefs.now s.args.positions.now (answer legal))
     (legal_checked _ _ _ (lists c.before))))
 
-pub check-spec : {M : Type 1} → statement M
-check-spec =
+pub check_spec : {M : Type 1} → statement M
+check_spec =
     tie.close (tie.spec (λ c κs. search rules) returns returns-2 (λ c κs. search rules) (λ c. search rules) (λ c. search rules)
     (λ c κs. lists c) returns-3 returns-4)

@@ -21,24 +21,24 @@ module _ (s : tie.Start) where
   abbrev after : Outcome Space
   after = positions_checked s.args.positions.now (fine (break whole 0)) (fine (break whole (segments whole))) then λ _. answer whole
 
-returns : tie.Need-returns
+returns : tie.Need-returns-in-Refused
 returns c =
-    let s = c.before.before.before.before in
-    sym (refusal_refused _ (entries-chain (whole s) s.args.coefs.now s.args.positions.now (answer (whole s))
-    ∙ then_refuses (λ _. after s) (sym (coefficients_partial s.args.breaks.now s.args.degrees.now s.args.orders.now
+    let s = c in
+    sym (refusal_refused _ (entries-chain (whole s.before.before) s.args.coefs.now s.args.positions.now (answer (whole s.before.before))
+    ∙ then_refuses (λ _. after s.before.before) (sym (coefficients_partial s.args.breaks.now s.args.degrees.now s.args.orders.now
     s.args.coefs.now) ∙ refused_refuses _
-    (sym c.before.before.before.check-coefficients.ensures ∙ c.before.c.given.1))))
+    (sym c.check_coefficients-c.ensures ∙ c.in-Refused.is))))
 
-returns-2 : tie.Need-returns-2
+returns-2 : tie.Need-returns-in-Legal
 returns-2 c =
-    let s = c.before.before.before.before in
-    c.check-positions.ensures ∙ sym (ap legality
-    (entries-chain (whole s) s.args.coefs.now s.args.positions.now (answer (whole s))
-    ∙ then_answers (λ _. after s) (sym (coefficients_partial s.args.breaks.now s.args.degrees.now s.args.orders.now
+    let s = c in
+    c.check_positions.ensures ∙ sym (ap legality
+    (entries-chain (whole s.before.before.before) s.args.coefs.now s.args.positions.now (answer (whole s.before.before.before))
+    ∙ then_answers (λ _. after s.before.before.before) (sym (coefficients_partial s.args.breaks.now s.args.degrees.now s.args.orders.now
     s.args.coefs.now) ∙ (legal_answers _
-    (sym c.before.before.before.check-coefficients.ensures ∙ c.before.enum_told.given.1)).is))
-    ∙ legality_then _ (λ _. whole s))
+    (sym c.check_coefficients-c.ensures ∙ c.in-Legal.is)).is))
+    ∙ legality_then _ (λ _. whole s.before.before.before))
 
-pub check-entries-spec : {M : Type 1} → statement M
-check-entries-spec =
+pub check_entries_spec : {M : Type 1} → statement M
+check_entries_spec =
     tie.close (tie.spec (λ c κs. search rules) (λ c. search rules) (λ c. search rules) (λ c κs. search rules) returns returns-2)

@@ -5,13 +5,13 @@ use Rattle.base_exact.proofs.Decide.{cond_true, cond_false}
 use Rattle.curve_ordinates.proofs.at_most.Statement.{statement}
 use Rattle.curve_ordinates.proofs.at_most.Tie as tie
 
-returns : tie.Need-returns
+returns : tie.Need-returns-then-high-x
 returns c =
-    let f = c.before.ranges.high in let g = c.before.ranges.x in simp to_z-of_z (sym (cond_true _ _ (simp to_z-of_z at c.if1.true)))
+    let f = c.before.ranges.high in let g = c.before.ranges.x in simp to_z-of_z (sym (cond_true _ _ (simp to_z-of_z at c.if-high-x.true)))
 
-returns-2 : tie.Need-returns-2
+returns-2 : tie.Need-returns
 returns-2 c =
-    let f = c.before.ranges.high in let g = c.before.ranges.x in simp to_z-of_z (sym (cond_false _ _ (simp to_z-of_z at c.if1.false)))
+    let f = c.before.ranges.high in let g = c.before.ranges.x in simp to_z-of_z (sym (cond_false _ _ (simp to_z-of_z at c.if-high-x.false)))
 
-pub at-most-spec : {M : Type 1} → statement M
-at-most-spec = tie.close (tie.spec returns returns-2)
+pub at_most_spec : {M : Type 1} → statement M
+at_most_spec = tie.close (tie.spec returns returns-2)

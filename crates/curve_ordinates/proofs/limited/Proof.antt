@@ -16,30 +16,30 @@ module _ (s : tie.Start) where
   least_fits = sfits_abs (omega (arith, s.requires.least-small))
 
   greatest-fits : SFits w64 s.args.terms.greatest
-  greatest-fits = sfits_abs (omega (arith, s.pre.greatest-small))
+  greatest-fits = sfits_abs (omega (arith, s.requires.greatest-small))
 
   low_fits : SFits w64 (pos 256 *ℤ s.args.terms.least)
-  low_fits = sfits_abs (omega (arith, abs_mul_le (pos 256) s.args.terms.least 256 1000000 (omega arith) s.pre.least-small))
+  low_fits = sfits_abs (omega (arith, abs_mul_le (pos 256) s.args.terms.least 256 1000000 (omega arith) s.requires.least-small))
 
   high_fits : SFits w64 (pos 256 *ℤ s.args.terms.greatest)
-  high_fits = sfits_abs (omega (arith, abs_mul_le (pos 256) s.args.terms.greatest 256 1000000 (omega arith) s.pre.greatest-small))
+  high_fits = sfits_abs (omega (arith, abs_mul_le (pos 256) s.args.terms.greatest 256 1000000 (omega arith) s.requires.greatest-small))
 
-sum_fits : (c : tie.After-struct-told) → SFits w64 c.before.args.terms.sum
-sum_fits c = record { sfits = c.struct_told.given.1.0.1 }
+sum_fits : (c : tie.After-struct_told-1) → SFits w64 c.before.args.terms.sum
+sum_fits c = record { sfits = c.struct_told-1.given.1.0.1 }
 
-returns : tie.Need-returns
+returns : tie.Need-returns-then-not-terms
 returns c =
     let f = sum_fits c.before.before in
     let t = c.before.before.before.args.terms in
-    simp to_z-of_z (sym (limits_unknown t.some t.sum t.least t.greatest (not-true _ c.if1.true)))
+    simp to_z-of_z (sym (limits_unknown t.some t.sum t.least t.greatest (not-true _ c.if-not-terms.true)))
 
-mul_low : tie.Need-overflow-mul-low
+mul_low : tie.Need-overflow_mul-low
 mul_low c = let s = c.before.before.before.before.before in let f = least_fits s in simp to_z-of_z (low_fits s)
 
-mul-high : tie.Need-overflow-mul-high
+mul-high : tie.Need-overflow_mul-high
 mul-high c = let s = c.before.before.before.before.before.before.before in let f = greatest-fits s in simp to_z-of_z (high_fits s)
 
-returns-2 : tie.Need-returns-2
+returns-2 : tie.Need-returns-then-sum-low
 returns-2 c =
     let d = c.before.before.before.before.before.before in let k = d.before in
     let s = k.before.before in
@@ -48,13 +48,13 @@ returns-2 c =
     let g = greatest-fits s in
     let h = low_fits s in
     let l = high_fits s in
-    let r : SFits w64 c.at-most.result = record { sfits = c.at-most.type-inv } in
+    let r : SFits w64 c.at_most.result = record { sfits = c.at_most.type_inv } in
     let t = s.args.terms in
-    let some = not-false _ d.if1.false in
-    let below = limits-below t.some t.sum t.least t.greatest some (simp to_z-of_z at c.before.if2.true) in
-    simp to_z-of_z ((simp to_z-of_z at c.at-most.ensures) ∙ sym below)
+    let some = not-false _ d.if-not-terms.false in
+    let below = limits-below t.some t.sum t.least t.greatest some (simp to_z-of_z at c.before.if-sum-low.true) in
+    simp to_z-of_z ((simp to_z-of_z at c.at_most.ensures) ∙ sym below)
 
-returns-3 : tie.Need-returns-3
+returns-3 : tie.Need-returns
 returns-3 c =
     let d = c.before.before.before.before.before.before in let k = d.before in
     let s = k.before.before in
@@ -63,11 +63,11 @@ returns-3 c =
     let g = greatest-fits s in
     let h = low_fits s in
     let l = high_fits s in
-    let r : SFits w64 c.at-most2.result = record { sfits = c.at-most2.type-inv } in
+    let r : SFits w64 c.at_most-2.result = record { sfits = c.at_most-2.type_inv } in
     let t = s.args.terms in
-    let some = not-false _ d.if1.false in
-    let above = limits-above t.some t.sum t.least t.greatest some (simp to_z-of_z at c.before.if2.false) in
-    simp to_z-of_z ((simp to_z-of_z at c.at-most2.ensures) ∙ sym above)
+    let some = not-false _ d.if-not-terms.false in
+    let above = limits-above t.some t.sum t.least t.greatest some (simp to_z-of_z at c.before.if-sum-low.false) in
+    simp to_z-of_z ((simp to_z-of_z at c.at_most-2.ensures) ∙ sym above)
 
-pub limited-spec : {M : Type 1} → statement M
-limited-spec = tie.close (tie.spec returns mul_low mul-high (λ c κs. search rules) returns-2 (λ c κs. search rules) returns-3)
+pub limited_spec : {M : Type 1} → statement M
+limited_spec = tie.close (tie.spec returns mul_low mul-high (λ c κs. search rules) returns-2 (λ c κs. search rules) returns-3)

@@ -22,11 +22,11 @@ module _ (s : tie.Start) where
   rings_few : rings ≤ 20000
   rings_few =
       breaks_apart (get_or s.args.breaks.now (suc s.args.i) (pos 0)) (get_or s.args.breaks.now s.args.i (pos 0))
-      (s.pre.legal.size (suc s.args.i) (omega arith)) (s.pre.legal.size s.args.i (omega arith))
+      (s.requires.legal.size (suc s.args.i) (omega arith)) (s.requires.legal.size s.args.i (omega arith))
 
-module _ (c : tie.After-segment-length) where
-  length_is : to_z w64 (of_z w64 c.segment-length.result) ≡ pos (rings c.before)
-  length_is = to_z-of_z w64 _ (record { sfits = c.segment-length.type-inv }) ∙ c.segment-length.ensures
+module _ (c : tie.After-segment_length-length) where
+  length_is : to_z w64 (of_z w64 c.segment_length-length.result) ≡ pos (rings c.before)
+  length_is = to_z-of_z w64 _ (record { sfits = c.segment_length-length.type_inv }) ∙ c.segment_length-length.ensures
 
   fine-fits : SFits w64 (pos (256 * rings c.before))
   fine-fits = sfits_abs (omega (arith, rings_few c.before))
@@ -34,5 +34,5 @@ module _ (c : tie.After-segment-length) where
 returns : tie.Need-returns
 returns c = ap (λ (z : ℤ). to_z w64 (of_z w64 (pos 256 *ℤ z))) (length_is c) ∙ to_z-of_z w64 _ (fine-fits c)
 
-pub fine-width-spec : {M : Type 1} → statement M
-fine-width-spec = tie.close (tie.spec (λ c κs. search rules) (λ c. rw (length_is c) (fine-fits c)) returns)
+pub fine_width_spec : {M : Type 1} → statement M
+fine_width_spec = tie.close (tie.spec (λ c κs. search rules) (λ c. rw (length_is c) (fine-fits c)) returns)

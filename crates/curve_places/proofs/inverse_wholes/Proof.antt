@@ -16,37 +16,37 @@ use Rattle.curve_places.proofs.Inverses.{Filled, filled_none, filled_more, fille
 use Rattle.curve_places.proofs.inverse_wholes.Statement.{statement}
 use Rattle.curve_places.proofs.inverse_wholes.Tie as tie
 
-abbrev invariant-loop : tie.invariant-loop
+abbrev invariant-loop : tie.invariant-loop-k
 invariant-loop breaks degrees wholes₀ k₀ wholes k = Filled whole_of breaks degrees wholes k
 
-abbrev decreases-loop : tie.decreases-loop
+abbrev decreases-loop : tie.decreases-loop-k
 decreases-loop breaks degrees wholes₀ k₀ wholes k = length degrees - k
 
-fine-width-requires : tie.Need-fine-width-requires invariant-loop decreases-loop
-fine-width-requires c κs = let h = c.before.before.requires.legal in record { within = omega (arith, h.break-count); legal = h.breaks_legal }
+fine-width-requires : tie.Need-fine_width-d-requires invariant-loop decreases-loop
+fine-width-requires c κs = let h = c.requires.legal in record { within = omega (arith, h.break-count); legal = h.breaks_legal }
 
-module _ (c : tie.After-fine-width invariant-loop decreases-loop) where
-  abbrev turn : tie.At-loop invariant-loop decreases-loop
+module _ (c : tie.After-fine_width-d invariant-loop decreases-loop) where
+  abbrev turn : tie.At-loop-k invariant-loop decreases-loop
   turn = c.before.before
 
   abbrev start : tie.Start invariant-loop decreases-loop
   start = turn.before
 
-  width_is : to_z w64 (of_z w64 c.fine-width.result) ≡ pos (fine_width (space start.args.breaks.now start.args.degrees.now []) turn.loop.k)
-  width_is = to_z-of_z w64 _ (record { sfits = c.fine-width.type-inv }) ∙ c.fine-width.ensures
+  width_is : to_z w64 (of_z w64 c.fine_width-d.result) ≡ pos (fine_width (space start.args.breaks.now start.args.degrees.now []) turn.loop-k.k)
+  width_is = to_z-of_z w64 _ (record { sfits = c.fine_width-d.type_inv }) ∙ c.fine_width-d.ensures
 
-whole-of-requires : tie.Need-whole-of-requires invariant-loop decreases-loop
-whole-of-requires c κs = rw (width_is c) (length_is _ _ _ (start c).requires.legal (turn c).loop.k (omega arith))
+whole-of-requires : tie.Need-whole_of-whole-requires invariant-loop decreases-loop
+whole-of-requires c κs = rw (width_is c) (length_is _ _ _ (start c).requires.legal (turn c).loop-k.k (omega arith))
 
-loop-again : tie.Need-loop-preserved invariant-loop decreases-loop
+loop-again : tie.Need-loop-k-preserved invariant-loop decreases-loop
 loop-again c =
-    filled_more whole_of _ _ (start c.before).pre.legal.few (omega arith) (turn c.before).loop.inv
-    (to_z-of_z w64 _ (record { sfits = c.whole_of.type-inv }) ∙ c.whole_of.ensures ∙ ap whole_of (width_is c.before))
+    filled_more whole_of _ _ (start c.before).requires.legal.few (omega arith) (turn c.before).loop-k.invariant
+    (to_z-of_z w64 _ (record { sfits = c.whole_of-whole.type_inv }) ∙ c.whole_of-whole.ensures ∙ ap whole_of (width_is c.before))
 
-pub inverse-wholes-spec : {M : Type 1} → statement M
-inverse-wholes-spec =
+pub inverse_wholes_spec : {M : Type 1} → statement M
+inverse_wholes_spec =
     tie.close (tie.spec invariant-loop decreases-loop (λ c. filled_none _ _ _) fine-width-requires whole-of-requires
-    (λ c. let s = start c.before in omega (arith, s.pre.legal.few))
-    (λ c. let s = start c.before in omega (arith, s.pre.legal.few))
-    (λ c. let s = start c.before in omega (arith, s.pre.legal.few)) (λ c. omega arith) loop-again
-    (λ c. filled_all whole_of _ _ c.before.before.requires.legal.few (omega arith) c.before.loop.invariant))
+    (λ c. let s = start c.before in omega (arith, s.requires.legal.few))
+    (λ c. let s = start c.before in omega (arith, s.requires.legal.few))
+    (λ c. let s = start c.before in omega (arith, s.requires.legal.few)) (λ c. omega arith) loop-again
+    (λ c. filled_all whole_of _ _ c.requires.legal.few (omega arith) c.loop-k.invariant))

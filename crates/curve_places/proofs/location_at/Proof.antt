@@ -38,22 +38,22 @@ module _ (c : tie.Start) where
   offset_is : Offset (offset (space c.args.breaks.now [] []) i c.args.x) (pos (fine_width (space c.args.breaks.now [] []) i))
   offset_is = offset-within c.args.breaks.now c.args.degrees.now orders legal c.args.x c.requires.within i found
 
-offset-requires : tie.Need-offset-requires
+offset-requires : tie.Need-offset-u-requires
 offset-requires c κs =
-    let s = c.before.before in
-    record { within = omega (arith, within s, (legal s).break-count); legal = (legal s).breaks_legal }
+    let s = c in
+    record { within = omega (arith, within s.before.before, (legal s.before.before).break-count); legal = (legal s.before.before).breaks_legal }
 
-fine-width-requires : tie.Need-fine-width-requires
+fine-width-requires : tie.Need-fine_width-d-requires
 fine-width-requires c κs =
-    let s = c.before.before.before in
-    record { within = omega (arith, within s, (legal s).break-count); legal = (legal s).breaks_legal }
+    let s = c in
+    record { within = omega (arith, within s.before.before.before, (legal s.before.before.before).break-count); legal = (legal s.before.before.before).breaks_legal }
 
-shared-slice-read-c : tie.Need-shared-slice-read-c
+shared-slice-read-c : tie.Need-bounds-columns-i
 shared-slice-read-c c =
-    let s = c.before.before.before.before.before in
-    omega (arith, within s, (legal s).few, ap length s.requires.columns_are, columns_long s.args.degrees.now)
+    let s = c in
+    omega (arith, within s.before.before.before.before.before, (legal s.before.before.before.before.before).few, ap length s.requires.columns_are, columns_long s.args.degrees.now)
 
-module _ (c : tie.After-fine-width) where
+module _ (c : tie.After-fine_width-d) where
   abbrev start : tie.Start
   start = c.before.before.before.before
 
@@ -62,41 +62,41 @@ module _ (c : tie.After-fine-width) where
 
   column_is : column ≡ first_column (space [] start.args.degrees.now []) (i start)
   column_is =
-      ap (λ xs. get_or xs (i start) 0) start.pre.columns_are
+      ap (λ xs. get_or xs (i start) 0) start.requires.columns_are
       ∙ column_at start.args.breaks.now _ _ (legal start) (i start) (within start)
 
-  p_small : c.before.before.degree-at.result ≤ 5
-  p_small = rw c.before.before.degree-at.ensures (degree-within start.args.breaks.now _ _ (legal start) (i start) (within start))
+  p_small : c.degree_at-p.result ≤ 5
+  p_small = rw c.degree_at-p.ensures (degree-within start.args.breaks.now _ _ (legal start) (i start) (within start))
 
-  u_is : to_z w64 (of_z w64 c.before.offset.result) ≡ offset (space start.args.breaks.now [] []) (i start) start.args.x
+  u_is : to_z w64 (of_z w64 c.offset-u.result) ≡ offset (space start.args.breaks.now [] []) (i start) start.args.x
   u_is =
-      to_z-of_z w64 _ (record { sfits = c.before.offset.type-inv }) ∙ c.before.offset.ensures
-      ∙ ap (λ (z : ℤ). offset (space start.args.breaks.now [] []) (i start) z) (to_z-of_z w32 _ start.fits.x)
+      to_z-of_z w64 _ (record { sfits = c.offset-u.type_inv }) ∙ c.offset-u.ensures
+      ∙ ap (λ (z : ℤ). offset (space start.args.breaks.now [] []) (i start) z) (to_z-of_z w32 _ start.ranges.x)
 
-  d_is : to_z w64 (of_z w64 c.fine-width.result) ≡ pos (fine_width (space start.args.breaks.now [] []) (i start))
-  d_is = to_z-of_z w64 _ (record { sfits = c.fine-width.type-inv }) ∙ c.fine-width.ensures
+  d_is : to_z w64 (of_z w64 c.fine_width-d.result) ≡ pos (fine_width (space start.args.breaks.now [] []) (i start))
+  d_is = to_z-of_z w64 _ (record { sfits = c.fine_width-d.type_inv }) ∙ c.fine_width-d.ensures
 
-  column-within : column + c.before.before.degree-at.result < 288
+  column-within : column + c.degree_at-p.result < 288
   column-within =
       omega (
         arith,
         column_is,
-        c.before.before.degree-at.ensures,
+        c.degree_at-p.ensures,
         columns-within start.args.breaks.now start.args.degrees.now (orders start) (legal start) (i start) (within start),
       )
 
 returns : tie.Need-returns
 returns c =
-    let e = c.before in
-    let s = start e in
+    let e = c in
+    let s = start e.before in
     let a = s.args in
     record {
-      is = λ o at. location_is a.breaks.now a.degrees.now o a.x (i s) at (column_is e) e.before.before.degree-at.ensures
-          (u_is e) (d_is e);
-      sound = record { low = p_small e; within = column-within e; inside = rw (u_is e, d_is e) (offset_is s) };
+      is = λ o at. location_is a.breaks.now a.degrees.now o a.x (i s) at (column_is e.before) e.degree_at-p.ensures
+          (u_is e.before) (d_is e.before);
+      sound = record { low = p_small e.before; within = column-within e.before; inside = rw (u_is e.before, d_is e.before) (offset_is s) };
     }
 
-pub location-at-spec : {M : Type 1} → statement M
-location-at-spec =
-    tie.close (tie.spec (λ c κs. let s = c.before in (within s, (legal s).degrees_legal)) offset-requires fine-width-requires
-    (λ c. let s = c.before.before.before.before in omega (arith, within s, (legal s).few)) shared-slice-read-c returns)
+pub location_at_spec : {M : Type 1} → statement M
+location_at_spec =
+    tie.close (tie.spec (λ c κs. let s = c in (within s.before, (legal s.before).degrees_legal)) offset-requires fine-width-requires
+    (λ c. let s = c in omega (arith, within s.before.before.before.before, (legal s.before.before.before.before).few)) shared-slice-read-c returns)

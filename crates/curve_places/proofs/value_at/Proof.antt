@@ -19,34 +19,34 @@ use Rattle.curve_places.proofs.value_at.Tie as tie
 abbrev word : ℤ → ℤ
 word z = to_z w64 (of_z w64 z)
 
-module _ (c : tie.After-struct-told2) where
+module _ (c : tie.After-struct_told-2-1) where
   abbrev begin : tie.Start
   begin = c.before.before.before.before
 
   offset-fits : SFits w64 begin.args.location.offset
-  offset-fits = record { sfits = c.struct-told2.given.1.1.0.1 }
+  offset-fits = record { sfits = c.struct_told-2-1.given.1.1.0.1 }
 
   width_fits : SFits w64 begin.args.location.width
-  width_fits = record { sfits = c.before.before.before.struct_told.given.1.1.1.0.1 }
+  width_fits = record { sfits = c.struct_told-1.given.1.1.1.0.1 }
 
-  whole-fits : SFits w64 c.before.before.whole_of.result
-  whole-fits = record { sfits = c.before.before.whole_of.type-inv }
+  whole-fits : SFits w64 c.whole_of-whole.result
+  whole-fits = record { sfits = c.whole_of-whole.type_inv }
 
-  tail-fits : SFits w64 c.before.Tail-of.result
-  tail-fits = record { sfits = c.before.Tail-of.type-inv }
+  tail-fits : SFits w64 c.tail_of-tail.result
+  tail-fits = record { sfits = c.tail_of-tail.type_inv }
 
   -- the inverse of the segment's length
-  inverted : Inverted c.before.before.whole_of.result c.before.Tail-of.result begin.args.location.width
+  inverted : Inverted c.whole_of-whole.result c.tail_of-tail.result begin.args.location.width
   inverted =
       let f = width_fits in
-      record { whole_is = simp to_z-of_z at c.before.before.whole_of.ensures; tail_is = simp to_z-of_z at c.before.Tail-of.ensures }
+      record { whole_is = simp to_z-of_z at c.whole_of-whole.ensures; tail_is = simp to_z-of_z at c.tail_of-tail.ensures }
 
-rate-of-requires : tie.Need-rate-of-requires
+rate-of-requires : tie.Need-rate_of-rate-requires
 rate-of-requires c κs =
     simp (to_z-of_z, offset-fits c, whole-fits c, tail-fits c)
     (record { width = _; inside = (begin c).requires.sound.inside; inverted = inverted c })
 
-module _ (c : tie.After-struct-told4) where
+module _ (c : tie.After-struct_told-4-1) where
   abbrev start : tie.Start
   start = begin c.before.before.before
 
@@ -54,27 +54,27 @@ module _ (c : tie.After-struct-told4) where
   location = start.args.location
 
   abbrev high : ℤ
-  high = c.before.before.rate-of.result.high
+  high = c.rate_of-rate.result.high
 
   abbrev low : ℤ
-  low = c.before.before.rate-of.result.low
+  low = c.rate_of-rate.result.low
 
   high_fits : SFits w64 high
-  high_fits = record { sfits = c.before.struct-told3.given.0.1 }
+  high_fits = record { sfits = c.struct_told-3-1.given.0.1 }
 
   low_fits : SFits w64 low
-  low_fits = record { sfits = c.struct-told4.given.1.0.1 }
+  low_fits = record { sfits = c.struct_told-4-1.given.1.0.1 }
 
   -- the rate of the location, as its two numbers are passed on
   rated : Rated (word high) (word low) location.offset location.width
   rated =
-      let t = c.before.before.before in
-      let f = offset-fits t in
-      let g = whole-fits t in
-      let h = tail-fits t in
+      let t = c in
+      let f = offset-fits t.before.before.before in
+      let g = whole-fits t.before.before.before in
+      let h = tail-fits t.before.before.before in
       let k = high_fits in
       let l = low_fits in
-      simp to_z-of_z ((simp to_z-of_z at c.before.before.rate-of.ensures) _ start.pre.sound.inside (inverted t))
+      simp to_z-of_z ((simp to_z-of_z at c.rate_of-rate.ensures) _ start.requires.sound.inside (inverted t.before.before.before))
 
   -- the value there
   there : (os : List ℤ) (r : ℤ) → ValueIs os location.column location.degree (word high) (word low) r → r ≡ value_of os location
@@ -83,16 +83,16 @@ module _ (c : tie.After-struct-told4) where
   -- what the ordinates of a wood part are asked
   asked : (os : List ℤ) → BeamOrdinates os → ValueAsks os location.column location.degree (word high) (word low)
   asked os h = record {
-    degree_low = start.pre.sound.low;
-    columns-within = start.pre.sound.within;
+    degree_low = start.requires.sound.low;
+    columns-within = start.requires.sound.within;
     rate = record { offset = _; width = _; rated = rated };
     ordinates = h;
   }
 
 returns : tie.Need-returns
-returns c = to_z-of_z w32 _ (record { sfits = c.value-by.type-inv }) ∙ there c.before _ _ c.value-by.ensures
+returns c = to_z-of_z w32 _ (record { sfits = c.value_by.type_inv }) ∙ there c.before _ _ c.value_by.ensures
 
-pub value-at-spec : {M : Type 1} → statement M
-value-at-spec =
+pub value_at_spec : {M : Type 1} → statement M
+value_at_spec =
     tie.close (tie.spec (λ c κs. search rules) (λ c κs. search rules) rate-of-requires (λ c κs. asked c _ (start c).requires.ordinates)
     returns)

@@ -24,11 +24,11 @@ module _ (s : tie.Start) where
 
   -- what an arm asks
   asked : (p : ℕ) → s.args.p ≡ p → ValueAsks s.args.ordinates.now s.args.c p (word s.args.high) (word s.args.low)
-  asked p e = let r = s.pre.rate in record {
-    degree_low = omega (arith, s.pre.degree_low, e);
-    columns-within = omega (arith, s.pre.columns-within, e);
+  asked p e = let r = s.requires.rate in record {
+    degree_low = omega (arith, s.requires.degree_low, e);
+    columns-within = omega (arith, s.requires.columns-within, e);
     rate = record { offset = r.offset; width = r.width; rated = passed _ _ r.rated };
-    ordinates = s.pre.ordinates;
+    ordinates = s.requires.ordinates;
   }
 
   -- and what it gives
@@ -40,32 +40,32 @@ module _ (s : tie.Start) where
       ∙ is u d (passed u d rated)
       ∙ ap (λ (n : ℕ). triangle (nat_abs d) u (λ k. get_or s.args.ordinates.now (s.args.c + k) (pos 0)) n 0) (sym e)
 
-returns : tie.Need-returns
+returns : tie.Need-returns-in-1
 returns c u d rated =
-    arm c.before.before 1 _ c.before.match.keys1 (record { sfits = c.value_of_lem.type-inv }) c.value_of_lem.ensures u d rated
+    arm c.before.before 1 _ c.in-1.is (record { sfits = c.value_of.type_inv }) c.value_of.ensures u d rated
 
-returns-2 : tie.Need-returns-2
+returns-2 : tie.Need-returns-in-2
 returns-2 c u d rated =
-    arm c.before.before 2 _ c.before.match.keys2 (record { sfits = c.value-of2.type-inv }) c.value-of2.ensures u d rated
+    arm c.before.before 2 _ c.in-2.is (record { sfits = c.value_of-in-2.type_inv }) c.value_of-in-2.ensures u d rated
 
-returns-3 : tie.Need-returns-3
+returns-3 : tie.Need-returns-in-3
 returns-3 c u d rated =
-    arm c.before.before 3 _ c.before.match.keys3 (record { sfits = c.value-of3.type-inv }) c.value-of3.ensures u d rated
+    arm c.before.before 3 _ c.in-3.is (record { sfits = c.value_of-in-3.type_inv }) c.value_of-in-3.ensures u d rated
 
-returns-4 : tie.Need-returns-4
+returns-4 : tie.Need-returns-in-4
 returns-4 c u d rated =
-    arm c.before.before 4 _ c.before.match.keys4 (record { sfits = c.value-of4.type-inv }) c.value-of4.ensures u d rated
+    arm c.before.before 4 _ c.in-4.is (record { sfits = c.value_of-in-4.type_inv }) c.value_of-in-4.ensures u d rated
 
-returns-5 : tie.Need-returns-5
+returns-5 : tie.Need-returns-in-5
 returns-5 c u d rated =
-    arm c.before.before 5 _ c.before.match.keys5 (record { sfits = c.value-of5.type-inv }) c.value-of5.ensures u d rated
+    arm c.before.before 5 _ c.in-5.is (record { sfits = c.value_of-in-5.type_inv }) c.value_of-in-5.ensures u d rated
 
-returns-6 : tie.Need-returns-6
-returns-6 c u d rated = arm c.before.before _ _ refl (record { sfits = c.value-of6.type-inv }) c.value-of6.ensures u d rated
+returns-6 : tie.Need-returns-in_default
+returns-6 c u d rated = arm c.before.before _ _ refl (record { sfits = c.value_of-in_default.type_inv }) c.value_of-in_default.ensures u d rated
 
-pub value-by-spec : {M : Type 1} → statement M
-value-by-spec =
-    tie.close (tie.spec (λ c κs. asked c.before 1 c.match.keys1) (λ c κs. asked c.before 2 c.match.keys2)
-    (λ c κs. asked c.before 3 c.match.keys3) (λ c κs. asked c.before 4 c.match.keys4)
-    (λ c κs. asked c.before 5 c.match.keys5) (λ c κs. asked c.before _ refl) returns returns-2 returns-3 returns-4 returns-5
+pub value_by_spec : {M : Type 1} → statement M
+value_by_spec =
+    tie.close (tie.spec (λ c κs. asked c.before 1 c.in-1.is) (λ c κs. asked c.before 2 c.in-2.is)
+    (λ c κs. asked c.before 3 c.in-3.is) (λ c κs. asked c.before 4 c.in-4.is)
+    (λ c κs. asked c.before 5 c.in-5.is) (λ c κs. asked c.before _ refl) returns returns-2 returns-3 returns-4 returns-5
     returns-6)

@@ -24,7 +24,7 @@ returns c =
     let k : SFits w64 (floor_div (c.args.rise *ℤ c.args.low) 536870912) = floor-fits 536870912 (product-fits c) in
     simp (to_z-of_z, floor_div_shr_z) refl
 
-pub carried-spec : {M : Type 1} → statement M
-carried-spec =
+pub carried_spec : {M : Type 1} → statement M
+carried_spec =
     tie.close (tie.spec (λ c. let f = c.ranges.rise in let g = c.ranges.low in simp to_z-of_z (product-fits c)) (λ c. search rules)
     (λ c. search rules) returns)

@@ -18,12 +18,12 @@ use Rattle.curve_rate.proofs.rate_of.Tie as tie
 sizes : (c : tie.Start) → RateSizes c.args.u c.args.whole c.args.tail
 sizes c = rate_sizes c.args.u c.args.whole c.args.tail c.requires
 
-carried-requires : tie.Need-carried-requires
+carried-requires : tie.Need-carried-more-requires
 carried-requires c κs =
     let s = sizes c in
     simp (to_z-of_z, c.ranges.u, c.ranges.tail) (record { rise-small = omega (arith, s.offset-small); low_small = s.tail-small })
 
-module _ (c : tie.After-carried) where
+module _ (c : tie.After-carried-more) where
   abbrev start : tie.Start
   start = c.before
 
@@ -37,13 +37,13 @@ module _ (c : tie.After-carried) where
   tail = start.args.tail
 
   abbrev sum : ℤ
-  sum = u *ℤ whole +ℤ c.carried.result
+  sum = u *ℤ whole +ℤ c.carried-more.result
 
-  more_is : c.carried.result ≡ more u tail
-  more_is = simp (to_z-of_z, start.fits.u, start.fits.tail) at c.carried.ensures
+  more_is : c.carried-more.result ≡ more u tail
+  more_is = simp (to_z-of_z, start.ranges.u, start.ranges.tail) at c.carried-more.ensures
 
-  more_fits : SFits w64 c.carried.result
-  more_fits = record { sfits = c.carried.type-inv }
+  more_fits : SFits w64 c.carried-more.result
+  more_fits = record { sfits = c.carried-more.type_inv }
 
   product-fits : SFits w64 (u *ℤ whole)
   product-fits = sfits_abs (omega (arith, (sizes start).product_small))
@@ -80,13 +80,13 @@ module _ (c : tie.After-carried) where
       (subst (λ (z : ℤ). Rated z (low u whole tail) c.before.args.u d) (sym high_is)
       (rate_is u whole tail (sizes start) d o inverted))
 
-add_total : tie.Need-overflow-add-total
+add_total : tie.Need-overflow_add-total
 add_total c = simp (to_z-of_z, c.before.ranges.u, c.before.ranges.whole, product-fits c, more_fits c) (sum_fits c)
 
-mul_low : tie.Need-overflow-mul-low
+mul_low : tie.Need-overflow_mul-low
 mul_low c = simp (to_z-of_z, c.before.ranges.u, c.before.ranges.whole, product-fits c, more_fits c, sum_fits c, high_fits c) (back_fits c)
 
-sub_low : tie.Need-overflow-sub-low
+sub_low : tie.Need-overflow_sub-low
 sub_low c =
     simp (to_z-of_z, c.before.ranges.u, c.before.ranges.whole, product-fits c, more_fits c, sum_fits c, high_fits c, back_fits c)
     (low_fits c)
@@ -96,8 +96,8 @@ returns c d o inverted =
     simp (to_z-of_z, c.before.ranges.u, c.before.ranges.whole, product-fits c, more_fits c, sum_fits c, high_fits c, back_fits c)
     (rw (to_z-of_z w64 _ (low_fits c)) (rated c d o inverted))
 
-pub rate-of-spec : {M : Type 1} → statement M
-rate-of-spec =
+pub rate_of_spec : {M : Type 1} → statement M
+rate_of_spec =
     tie.close (tie.spec carried-requires
     (λ c. let f = c.before.ranges.u in let g = c.before.ranges.whole in simp to_z-of_z (product-fits c)) add_total (λ c. search rules)
     (λ c. search rules) mul_low sub_low returns)

@@ -17,24 +17,24 @@ use Rattle.curve_rate.proofs.Sizes.{offset-abs, InverseSizes, inverse_sizes}
 use Rattle.curve_rate.proofs.tail_of.Statement.{statement}
 use Rattle.curve_rate.proofs.tail_of.Tie as tie
 
-module _ (c : tie.After-whole-of) where
+module _ (c : tie.After-whole_of-whole) where
   abbrev d : ℤ
   d = c.before.args.d
 
   bounds : InverseSizes d
   bounds = inverse_sizes d c.before.requires
 
-  whole : SFits w64 c.whole_of.result
-  whole = record { sfits = c.whole_of.type-inv }
+  whole : SFits w64 c.whole_of-whole.result
+  whole = record { sfits = c.whole_of-whole.type_inv }
 
-  whole_is : c.whole_of.result ≡ whole_of d
-  whole_is = simp (to_z-of_z, c.before.ranges.d) at c.whole_of.ensures
+  whole_is : c.whole_of-whole.result ≡ whole_of d
+  whole_is = simp (to_z-of_z, c.before.ranges.d) at c.whole_of-whole.ensures
 
-  back_fits : SFits w64 (c.whole_of.result *ℤ d)
+  back_fits : SFits w64 (c.whole_of-whole.result *ℤ d)
   back_fits = subst (λ (x : ℤ). SFits w64 (x *ℤ c.before.args.d)) (sym whole_is) (sfits_abs (omega (arith, bounds.back-abs)))
 
   abbrev left : ℤ
-  left = pos 4611686018427387904 -ℤ c.whole_of.result *ℤ d
+  left = pos 4611686018427387904 -ℤ c.whole_of-whole.result *ℤ d
 
   left-inside : Offset left d
   left-inside =
@@ -55,10 +55,10 @@ module _ (c : tie.After-whole-of) where
   quotient_fits : SFits w64 (quot_z product d)
   quotient_fits = sfits_le (quot_mag product d above c.before.requires.long) product-fits
 
-mul-result : tie.Need-overflow-mul-result
+mul-result : tie.Need-overflow_mul-result
 mul-result c = simp (to_z-of_z, c.before.ranges.d, whole c, back_fits c, left-fits c) (product-fits c)
 
-div-result : tie.Need-nonzero-div-result
+div-result : tie.Need-nonzero_div-result
 div-result c =
     (of_z_pos w64 _ c.before.requires.long, simp (to_z-of_z, c.before.ranges.d, whole c, back_fits c, left-fits c, product-fits c) (quotient_fits c))
 
@@ -70,7 +70,7 @@ returns c =
     ∙ ap (λ (x : ℤ). floor_div ((pos 4611686018427387904 -ℤ x *ℤ c.before.args.d) *ℤ pos 536870912) (nat_abs c.before.args.d))
     (whole_is c))
 
-pub tail-of-spec : {M : Type 1} → statement M
-tail-of-spec =
+pub tail_of_spec : {M : Type 1} → statement M
+tail_of_spec =
     tie.close (tie.spec (λ c κs. search rules) (λ c. let f = c.before.ranges.d in let g = whole c in simp to_z-of_z (back_fits c))
     (λ c. let f = c.before.ranges.d in let g = whole c in let k = back_fits c in simp to_z-of_z (left-fits c)) mul-result div-result returns)

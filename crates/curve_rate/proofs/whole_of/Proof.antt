@@ -24,5 +24,5 @@ returns : tie.Need-returns
 unfolding whole_of
 returns c = simp (to_z-of_z, c.ranges.d, quotient_fits c) (quot_floor (pos 4611686018427387904) c.args.d unit-above c.requires.long)
 
-pub whole-of-spec : {M : Type 1} → statement M
-whole-of-spec = tie.close (tie.spec (λ c. let h = c.ranges.d in (of_z_pos w64 _ c.requires.long, simp to_z-of_z (quotient_fits c))) returns)
+pub whole_of_spec : {M : Type 1} → statement M
+whole_of_spec = tie.close (tie.spec (λ c. let h = c.ranges.d in (of_z_pos w64 _ c.requires.long, simp to_z-of_z (quotient_fits c))) returns)

@@ -43,11 +43,11 @@ module _ (c : tie.After-value-on invariant-loop decreases-loop) where
   abbrev values : ℕ → ℤ
   values = value_on start.args.ordinates.now start.args.c start.args.p start.args.d
 
-  result_fits : SFits w64 c.Value-on.result
-  result_fits = record { sfits = c.Value-on.type-inv }
+  result_fits : SFits w64 c.value_on.result
+  result_fits = record { sfits = c.value_on.type-inv }
 
-  result_is : c.Value-on.result ≡ values u
-  result_is = c.Value-on.ensures.is
+  result_is : c.value_on.result ≡ values u
+  result_is = c.value_on.ensures.is
 
 -- no value before u, with the target read back from its word
 before_is : (c : tie.At-loop invariant-loop decreases-loop) (w : ℕ) → let a = c.before.before.args in a.start ≤ w → w < c.loop.u → w < a.end
@@ -59,15 +59,15 @@ module _ (c : tie.Else2 invariant-loop decreases-loop) where
   abbrev read : tie.After-value-on invariant-loop decreases-loop
   read = c.before
 
-  below-result : c.before.Value-on.result <ℤ target read
+  below-result : c.before.value_on.result <ℤ target read
   below-result = le_z_false _ _ (simp (to_z-of_z, (start read).fits.target, result_fits read) at c.if2.false)
 
   abbrev gap : ℤ
-  gap = target read -ℤ c.before.Value-on.result
+  gap = target read -ℤ c.before.value_on.result
 
   gap-size : nat_abs gap ≤ 2 * ordinate_limit
   gap-size =
-      gap-small ordinate_limit c.before.Value-on.result (target read) c.before.Value-on.ensures.small below-result
+      gap-small ordinate_limit c.before.value_on.result (target read) c.before.value_on.ensures.small below-result
       (start read).pre.target_small
 
   gap-fits : SFits w64 gap

@@ -25,11 +25,11 @@ after_first : (orders : List ℤ) (i j : ℕ) → suc j ≡ i
 unfolding starts_at_discontinuity
 after_first orders i j e = ap (starts_at_discontinuity (space [] [] orders)) e
 
-returns : tie.Need-returns
+returns : tie.Need-returns-then-i-eq0
 returns c = at_first c.before.args.orders.now c.before.args.i (omega arith)
 
-returns-2 : tie.Need-returns-2
-returns-2 c = let a = c.before.before.args in c.is-discontinuity.ensures ∙ after_first a.orders.now a.i (a.i - 1) (omega arith)
+returns-2 : tie.Need-returns
+returns-2 c = let a = c.before.before.args in c.is_discontinuity.ensures ∙ after_first a.orders.now a.i (a.i - 1) (omega arith)
 
-pub starts-at-discontinuity-spec : {M : Type 1} → statement M
-starts-at-discontinuity-spec = tie.close (tie.spec returns (λ c. search rules) (λ c κs. search rules) returns-2)
+pub starts_at_discontinuity_spec : {M : Type 1} → statement M
+starts_at_discontinuity_spec = tie.close (tie.spec returns (λ c. search rules) (λ c κs. search rules) returns-2)

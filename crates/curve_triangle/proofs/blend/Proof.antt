@@ -20,39 +20,39 @@ module _ (c : tie.Start) where
   rise-fits : SFits w64 (c.args.h -ℤ c.args.g)
   rise-fits = sfits_abs (omega (arith, rise-size))
 
-share-of-requires : tie.Need-share-of-requires
+share-of-requires : tie.Need-share_of-requires
 share-of-requires c κs =
     simp (to_z-of_z, c.ranges.h, c.ranges.g, c.ranges.high, c.ranges.low, rise-fits c)
     (record { rise-small = omega (arith, rise-size c); rate = c.requires.rate })
 
-module _ (c : tie.After-share-of) where
+module _ (c : tie.After-share_of) where
   abbrev start : tie.Start
   start = c.before
 
-  share : SFits w64 c.share-of.result
-  share = record { sfits = c.share-of.type-inv }
+  share : SFits w64 c.share_of.result
+  share = record { sfits = c.share_of.type_inv }
 
   -- the sum is the blend
   is : (u d : ℤ) → Rated start.args.high start.args.low u d
-      → start.args.g +ℤ c.share-of.result ≡ blend (nat_abs d) u start.args.g start.args.h
+      → start.args.g +ℤ c.share_of.result ≡ blend (nat_abs d) u start.args.g start.args.h
   is u d rated =
       ap (λ (z : ℤ). start.args.g +ℤ z)
-      ((simp (to_z-of_z, start.fits.g, start.fits.h, start.fits.high, start.fits.low, rise-fits start) at c.share-of.ensures) u d rated)
-      ∙ step_is u d start.args.g start.args.h rated.inside start.pre.first_small start.pre.second-small
+      ((simp (to_z-of_z, start.ranges.g, start.ranges.h, start.ranges.high, start.ranges.low, rise-fits start) at c.share_of.ensures) u d rated)
+      ∙ step_is u d start.args.g start.args.h rated.inside start.requires.first_small start.requires.second-small
 
-  abs : nat_abs (start.args.g +ℤ c.share-of.result) ≤ ordinate_limit
+  abs : nat_abs (start.args.g +ℤ c.share_of.result) ≤ ordinate_limit
   abs =
-      let rated = start.pre.rate.rated in
+      let rated = start.requires.rate.rated in
       subst (λ (z : ℤ). nat_abs z ≤ ordinate_limit) (sym (is _ _ rated))
-      (step-abs _ _ start.args.g start.args.h rated.inside start.pre.first_small start.pre.second-small)
+      (step-abs _ _ start.args.g start.args.h rated.inside start.requires.first_small start.requires.second-small)
 
-  sum_fits : SFits w64 (start.args.g +ℤ c.share-of.result)
+  sum_fits : SFits w64 (start.args.g +ℤ c.share_of.result)
   sum_fits = sfits_abs (omega (arith, abs))
 
 returns : tie.Need-returns
-returns c = simp (to_z-of_z, c.before.ranges.g, share c, sum_fits c) (record { is = is c; small = abs c })
+returns c = simp (to_z-of_z, c.ranges.g, share c, sum_fits c) (record { is = is c; small = abs c })
 
-pub blend-spec : {M : Type 1} → statement M
-blend-spec =
+pub blend_spec : {M : Type 1} → statement M
+blend_spec =
     tie.close (tie.spec (λ c. let f = c.ranges.h in let g = c.ranges.g in simp to_z-of_z (rise-fits c)) share-of-requires
-    (λ c. let f = c.before.ranges.g in let k = share c in simp to_z-of_z (sum_fits c)) returns)
+    (λ c. let f = c.ranges.g in let k = share c in simp to_z-of_z (sum_fits c)) returns)

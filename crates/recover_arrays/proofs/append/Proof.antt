@@ -28,22 +28,22 @@ record Inv (cs : Fractions) (rows : ℕ) (ordinates : List ℤ) (column n : ℕ)
   within : i ≤ n
   is : (ps : List ℚ) → cs ≡ fractions ps → length ps ≡ rows → all ≡ fractions (ps ++ tab i (coefficient ordinates column))
 
-abbrev invariant-loop : tie.invariant-loop
+abbrev invariant-loop : tie.invariant-loop-i
 invariant-loop rows ordinates column n all₀ i₀ all i = Inv all₀ rows ordinates column n all i
 
-abbrev decreases-loop : tie.decreases-loop
+abbrev decreases-loop : tie.decreases-loop-i
 decreases-loop rows ordinates column n all₀ i₀ all i = n - i
 
 none : (ps : List ℚ) (f : ℕ → ℚ) → ps ≡ ps ++ tab 0 f
 unfolding tab
 none ps f = sym (append-nil ps)
 
-ordinate-fits : (c : tie.After-o invariant-loop decreases-loop) → SFits w32 (get_or c.before.before.before.args.ordinates.now (c.before.before.before.args.column + c.before.before.loop.i) (pos 0))
-ordinate-fits c = record { sfits = c.o.given }
+ordinate-fits : (c : tie.After-o-1 invariant-loop decreases-loop) → SFits w32 (get_or c.before.before.before.args.ordinates.now (c.before.before.before.args.column + c.before.before.loop-i.i) (pos 0))
+ordinate-fits c = record { sfits = c.o-1.given }
 
-loop-again : tie.Need-loop-preserved invariant-loop decreases-loop
+loop-again : tie.Need-loop-i-preserved invariant-loop decreases-loop
 loop-again c =
-    let l = c.before.before.loop in
+    let l = c.before.before.loop-i in
     let g = c.before.before.before.args in
     let os = g.ordinates.now in
     let n = ordinate-fits c in
@@ -68,14 +68,14 @@ columns_of os column n h =
 
 returns : tie.Need-returns invariant-loop decreases-loop
 returns c ps e size =
-    let l = c.before.loop in
+    let l = c.before.loop-i in
     let g = c.before.before.args in
     l.invariant.is ps e size
     ∙ ap (λ xs. fractions (ps ++ xs)) (ap (λ m. tab m (coefficient g.ordinates.now g.column)) (let z : l.i ≡ g.n = omega arith in z)
     ∙ columns_of g.ordinates.now g.column g.n c.before.before.requires.1)
 
-pub append-spec : {M : Type 1} → statement M
-append-spec =
+pub append_spec : {M : Type 1} → statement M
+append_spec =
     tie.close (tie.spec invariant-loop decreases-loop (λ c. record { within = omega arith; is = λ ps e size. e ∙ ap fractions (none ps _) })
     (λ c. omega arith) (λ c. omega arith) (λ c. omega arith) (λ c. omega arith)
     (λ c. let f = ordinate-fits c in simp to_z-of_z (sfits_widen f)) (λ c. omega arith) (λ c. omega arith) (λ c. omega arith)

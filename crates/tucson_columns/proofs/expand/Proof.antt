@@ -18,31 +18,31 @@ record Expanding (text : Text) (from to count limit : ℕ) (bytes₀ bytes : Tex
   size : length bytes ≡ length bytes₀
   is : take n bytes ++ expanded n (slice i to text) ≡ take count bytes₀ ++ expanded count (slice from to text)
 
-abbrev invariant-loop : tie.invariant-loop
+abbrev invariant-loop : tie.invariant-loop-i
 invariant-loop text from to count limit bytes₀ i₀ n₀ bytes i n = Expanding text from to count limit bytes₀ bytes i n
 
-abbrev decreases-loop : tie.decreases-loop
+abbrev decreases-loop : tie.decreases-loop-i
 decreases-loop text from to count limit bytes₀ i₀ n₀ bytes i n = to - i
 
-loop-holds : tie.Need-loop-init invariant-loop decreases-loop
-loop-holds c = let s = c.before.before in record { more = omega arith; within = s.requires.range.ordered; fits = s.requires.fewer; size = refl; is = refl }
+loop-holds : tie.Need-loop-i-init invariant-loop decreases-loop
+loop-holds c = let s = c in record { more = omega arith; within = s.requires.range.ordered; fits = s.requires.fewer; size = refl; is = refl }
 
-returns : tie.Need-returns invariant-loop decreases-loop
+returns : tie.Need-returns-then-n-limit invariant-loop decreases-loop
 returns c =
-    let l = c.before.before.loop in
-    record { more = l.invariant.more; within = l.invariant.within; fits = l.invariant.fits; full = λ h. c.if1.true; is = l.invariant.is }
+    let l = c.loop-i in
+    record { more = l.invariant.more; within = l.invariant.within; fits = l.invariant.fits; full = λ h. c.if-n-limit.true; is = l.invariant.is }
 
-put-byte-requires : tie.Need-put-byte-requires invariant-loop decreases-loop
+put-byte-requires : tie.Need-put_byte-n-requires invariant-loop decreases-loop
 put-byte-requires c κs =
-    let l = c.before.before.before.before.loop in
-    let s = c.before.before.before.before.before.before.before in
-    record { size = l.invariant.size ∙ s.requires.size; fits = omega (arith, l.invariant.fits, s.requires.fits, c.before.before.if1.false) }
+    let l = c.loop-i in
+    let s = c in
+    record { size = l.invariant.size ∙ s.requires.size; fits = omega (arith, l.invariant.fits, s.requires.fits, c.if-n-limit.false) }
 
-loop-again : tie.Need-loop-preserved invariant-loop decreases-loop
+loop-again : tie.Need-loop-i-preserved invariant-loop decreases-loop
 loop-again c =
-    let p = c.before.before.put_byte in let more = c.before.before.before.before.before.if1.false in
-    let l = c.before.before.before.before.before.before.before.loop in
-    let s = c.before.before.before.before.before.before.before.before.before.before in
+    let p = c.put_byte-n in let more = c.if-n-limit.false in
+    let l = c.loop-i in
+    let s = c in
     let text = s.args.text.now in
     record {
       more = omega arith;
@@ -50,18 +50,18 @@ loop-again c =
       fits =
           omega
           (arith, l.invariant.fits, s.requires.whole, p.ensures.next_is, byte_few l.n (get_or text l.i 0), more);
-      size = p.auto.0 ∙ l.invariant.size;
+      size = p.auto.bytes ∙ l.invariant.size;
       is =
-          expand-next text l.i s.args.to l.n l.bytes p.new.0 p.result (omega arith) s.requires.range.within p.ensures.next_is p.ensures.are
+          expand-next text l.i s.args.to l.n l.bytes p.new.bytes p.result (omega arith) s.requires.range.within p.ensures.next_is p.ensures.are
           ∙ l.invariant.is;
     }
 
-returns-2 : tie.Need-returns-2 invariant-loop decreases-loop
+returns-2 : tie.Need-returns invariant-loop decreases-loop
 returns-2 c =
-    let l = c.before.loop in
+    let l = c.loop-i in
     record { more = l.invariant.more; within = l.invariant.within; fits = l.invariant.fits; full = λ h. absurd (omega arith); is = l.invariant.is }
 
-pub expand-spec : {M : Type 1} → statement M
-expand-spec =
-    tie.close (tie.spec invariant-loop decreases-loop loop-holds (λ c. c.before.before.loop.invariant.size) returns (λ c. omega arith) put-byte-requires
-    (λ c. omega arith) (λ c. omega arith) loop-again (λ c. c.before.loop.invariant.size) returns-2)
+pub expand_spec : {M : Type 1} → statement M
+expand_spec =
+    tie.close (tie.spec invariant-loop decreases-loop loop-holds (λ c. c.loop-i.invariant.size) returns (λ c. omega arith) put-byte-requires
+    (λ c. omega arith) (λ c. omega arith) loop-again (λ c. c.loop-i.invariant.size) returns-2)

@@ -13,30 +13,30 @@ use Rattle.tucson_columns.proofs.line_stop.Tie as tie
 within : (s : tie.Start) → (s.args.from ≤ s.args.end) × (s.args.end ≤ length s.args.text.now)
 within s = end_within s.args.text.now s.args.from s.args.end s.requires
 
-returns : tie.Need-returns
+returns : tie.Need-returns-then-from-end
 returns c =
-    let s = c.before in
-    let told = stop_empty s.args.text.now s.args.from s.args.end s.requires c.if1.true in
-    record { after = omega (arith, within s); before = omega arith; are = told.0; returned = told.1 ∙ sym (le-ltb s.args.end s.args.end (omega arith)) }
+    let s = c in
+    let told = stop_empty s.args.text.now s.args.from s.args.end s.requires c.if-from-end.true in
+    record { after = omega (arith, within s.before); before = omega arith; are = told.0; returned = told.1 ∙ sym (le-ltb s.args.end s.args.end (omega arith)) }
 
-returns-2 : tie.Need-returns-2
+returns-2 : tie.Need-returns-then-text-end-eq13
 returns-2 c =
-    let s = c.before.before.before in
-    let told = stop_return s.args.text.now s.args.from s.args.end s.requires (omega (arith, within s, c.before.before.if1.false)) c.if2.true in
+    let s = c in
+    let told = stop_return s.args.text.now s.args.from s.args.end s.requires (omega (arith, within s.before.before.before, c.if-from-end.false)) c.if-text-end-eq13.true in
     record {
-      after = omega (arith, within s, c.before.before.if1.false);
+      after = omega (arith, within s.before.before.before, c.if-from-end.false);
       before = omega arith;
       are = told.0;
-      returned = told.1 ∙ sym (lt-ltb (s.args.end - 1) s.args.end (omega (arith, within s, c.before.before.if1.false)));
+      returned = told.1 ∙ sym (lt-ltb (s.args.end - 1) s.args.end (omega (arith, within s.before.before.before, c.if-from-end.false)));
     }
 
-returns-3 : tie.Need-returns-3
+returns-3 : tie.Need-returns
 returns-3 c =
-    let s = c.before.before.before in
-    let told = stop_other s.args.text.now s.args.from s.args.end s.requires (omega (arith, within s, c.before.before.if1.false)) c.if2.false in
-    record { after = omega (arith, within s); before = omega arith; are = told.0; returned = told.1 ∙ sym (le-ltb s.args.end s.args.end (omega arith)) }
+    let s = c in
+    let told = stop_other s.args.text.now s.args.from s.args.end s.requires (omega (arith, within s.before.before.before, c.if-from-end.false)) c.if-text-end-eq13.false in
+    record { after = omega (arith, within s.before.before.before); before = omega arith; are = told.0; returned = told.1 ∙ sym (le-ltb s.args.end s.args.end (omega arith)) }
 
-pub line-stop-spec : {M : Type 1} → statement M
-line-stop-spec =
-    tie.close (tie.spec returns (λ c. omega (arith, within c.before, c.if1.false))
-    (λ c. omega (arith, within c.before.before, c.before.if1.false)) (λ c. search rules) returns-2 returns-3)
+pub line_stop_spec : {M : Type 1} → statement M
+line_stop_spec =
+    tie.close (tie.spec returns (λ c. omega (arith, within c.before, c.if-from-end.false))
+    (λ c. omega (arith, within c.before.before, c.if-from-end.false)) (λ c. search rules) returns-2 returns-3)

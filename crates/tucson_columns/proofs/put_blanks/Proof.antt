@@ -18,22 +18,22 @@ record Putting (bytes₀ : Text) (n next : ℕ) (bytes : Text) (i : ℕ) : Type 
   size : length bytes ≡ length bytes₀
   are : take i bytes ≡ take n bytes₀ ++ replicate (i - n) blank
 
-abbrev invariant-loop : tie.invariant-loop
+abbrev invariant-loop : tie.invariant-loop-i
 invariant-loop bytes₀ n next i₀ bytes i = Putting bytes₀ n next bytes i
 
-abbrev decreases-loop : tie.decreases-loop
+abbrev decreases-loop : tie.decreases-loop-i
 decreases-loop bytes₀ n next i₀ bytes i = next - i
 
-loop-holds : tie.Need-loop-init invariant-loop decreases-loop
+loop-holds : tie.Need-loop-i-init invariant-loop decreases-loop
 loop-holds c =
     let e : c.args.n - c.args.n ≡ 0 = omega arith in
     record { behind = omega arith; within = omega arith; size = omega arith; are = rw e (sym (append-nil (take c.args.n c.args.bytes.now))) }
 
-loop-again : tie.Need-loop-preserved invariant-loop decreases-loop
+loop-again : tie.Need-loop-i-preserved invariant-loop decreases-loop
 loop-again c =
-    let l = c.before.loop in
-    let n = c.before.before.args.n in
-    let bytes = c.before.before.args.bytes.now in
+    let l = c.loop-i in
+    let n = c.args.n in
+    let bytes = c.args.bytes.now in
     let e : (l.i - n) + 1 ≡ suc l.i - n = omega arith in
     record {
       behind = omega arith;
@@ -47,16 +47,16 @@ loop-again c =
 
 returns : tie.Need-returns invariant-loop decreases-loop
 returns c =
-    let l = c.before.loop in
-    let n = c.before.before.args.n in
+    let l = c.loop-i in
+    let n = c.args.n in
     let e : l.i ≡ n + tab_blanks n = omega arith in
     let k : l.i - n ≡ tab_blanks n = omega arith in
     record {
       next_is = ap (λ (m : ℕ). n + m) (sym (length-replicate (tab_blanks n) blank));
-      are = ap (λ (m : ℕ). take m l.bytes) (sym e) ∙ l.invariant.are ∙ ap (λ (m : ℕ). take n c.before.before.args.bytes.now ++ replicate m blank) k;
+      are = ap (λ (m : ℕ). take m l.bytes) (sym e) ∙ l.invariant.are ∙ ap (λ (m : ℕ). take n c.args.bytes.now ++ replicate m blank) k;
     }
 
-pub put-blanks-spec : {M : Type 1} → statement M
-put-blanks-spec =
-    tie.close (tie.spec invariant-loop decreases-loop (λ c. omega arith) (λ c. omega arith) loop-holds (λ c. omega (arith, c.before.loop.invariant.size))
-    (λ c. omega arith) (λ c. omega arith) loop-again (λ c. c.before.loop.invariant.size) returns)
+pub put_blanks_spec : {M : Type 1} → statement M
+put_blanks_spec =
+    tie.close (tie.spec invariant-loop decreases-loop (λ c. omega arith) (λ c. omega arith) loop-holds (λ c. omega (arith, c.loop-i.invariant.size))
+    (λ c. omega arith) (λ c. omega arith) loop-again (λ c. c.loop-i.invariant.size) returns)

@@ -20,21 +20,21 @@ use Rattle.tucson_columns.proofs.put_byte.Tie as tie
 put_as : (n : ℕ) (bytes t u after : Text) (next : ℕ) → t ≡ u → Put n bytes t after next → Put n bytes u after next
 put_as n bytes t u after next e p = rw (sym e) p
 
-returns : tie.Need-returns
+returns : tie.Need-returns-then-byte-eq9
 returns c =
-    let s = c.before.before.before.before.before.before in
+    let s = c in
     put_as s.args.n s.args.bytes.now _ _ _ _
     (sym (ap (λ (b : Bool). cond b (replicate (tab_blanks s.args.n) blank) (s.args.byte ∷ []))
-    (eq-eqb s.args.byte tab c.before.before.before.before.if1.true))) c.before.before.put-blanks.ensures
+    (eq-eqb s.args.byte tab c.if-byte-eq9.true))) c.put_blanks.ensures
 
-returns-2 : tie.Need-returns-2
+returns-2 : tie.Need-returns
 returns-2 c =
-    let s = c.before.before in
+    let s = c in
     put_as s.args.n s.args.bytes.now (s.args.byte ∷ []) _ _ _
-    (sym (ap (λ (b : Bool). cond b (replicate (tab_blanks s.args.n) blank) (s.args.byte ∷ [])) (ne_eqb s.args.byte tab c.if1.false)))
+    (sym (ap (λ (b : Bool). cond b (replicate (tab_blanks s.args.n) blank) (s.args.byte ∷ [])) (ne_eqb s.args.byte tab c.if-byte-eq9.false)))
     (record { next_is = refl; are = rw add-one (take-suc-set s.args.bytes.now s.args.n s.args.byte (omega arith)) })
 
-pub put-byte-spec : {M : Type 1} → statement M
-put-byte-spec =
+pub put_byte_spec : {M : Type 1} → statement M
+put_byte_spec =
     tie.close (tie.spec (λ c κs. search rules) (λ c. search rules) returns (λ c. search rules) (λ c. search rules) (λ c. search rules)
     returns-2)

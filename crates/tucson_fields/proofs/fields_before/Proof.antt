@@ -26,83 +26,83 @@ record Looking (t : Text) (n : ℕ) (widths small nine : Bool) (at left : ℕ) :
   within : at + left * field_columns ≤ length t
   told : (ws : List ℤ) → field_numerals n (slice 12 (length t) t) ≡ some ws → Rest t at left ws widths small nine
 
-abbrev invariant-loop : tie.invariant-loop
+abbrev invariant-loop : tie.invariant-loop-left
 invariant-loop line n widths₀ small₀ nine₀ at₀ left₀ widths small nine at left = Looking line n widths small nine at left
 
-abbrev decreases-loop : tie.decreases-loop
+abbrev decreases-loop : tie.decreases-loop-left
 decreases-loop line n widths₀ small₀ nine₀ at₀ left₀ widths small nine at left = left
 
-loop-holds : tie.Need-loop-init invariant-loop decreases-loop
+loop-holds : tie.Need-loop-left-init invariant-loop decreases-loop
 loop-holds c = record { within = omega arith; told = λ ws e. rest_all _ _ ws e }
 
 -- a turn's field
-module _ (c : tie.After-numeral invariant-loop decreases-loop) where
+module _ (c : tie.After-numeral-field invariant-loop decreases-loop) where
   abbrev s : tie.Start invariant-loop decreases-loop
   s = c.before.before.before.before
 
   abbrev t : Text
   t = s.args.line.now
 
-  abbrev l : tie.At-loop invariant-loop decreases-loop
+  abbrev l : tie.At-loop-left invariant-loop decreases-loop
   l = c.before.before
 
-  fits_line : l.loop.at + field_columns ≤ length t
-  fits_line = let w = l.loop.inv.within in omega arith
+  fits_line : l.loop-left.at + field_columns ≤ length t
+  fits_line = let w = l.loop-left.invariant.within in omega arith
 
-returns : tie.Need-returns invariant-loop decreases-loop
+returns : tie.Need-returns-in-Bad invariant-loop decreases-loop
 returns c ws e =
-    let k = c.before.before in
-    let none_here = field-none _ (sym k.numeral.ensures ∙ c.enum_told.given.1) in
-    absurd (no_field (t k) (l k).loop.at (l k).loop.left ws _ _ _ ((l k).loop.invariant.told ws e) (omega arith) (fits_line k) none_here)
+    let k = c in
+    let none_here = field-none _ (sym k.numeral-field.ensures ∙ c.in-Bad.is) in
+    absurd (no_field (t k.before) (l k.before).loop-left.at (l k.before).loop-left.left ws _ _ _ ((l k.before).loop-left.invariant.told ws e) (omega arith) (fits_line k.before) none_here)
 
 -- what a field adds
-module _ (c : tie.After-either invariant-loop decreases-loop) where
-  abbrev f : tie.After-numeral invariant-loop decreases-loop
-  f = c.before.before.before.before.before.before.before.before
+module _ (c : tie.After-either-nine invariant-loop decreases-loop) where
+  abbrev f : tie.After-numeral-field invariant-loop decreases-loop
+  f = c.before.before.before.before.before.before
 
   abbrev z : ℤ
-  z = c.before.before.before.before.before.before.field.given.0.0
+  z = c.in-Numeral.z
 
   z_fits : SFits w32 z
-  z_fits = record { sfits = c.before.before.before.before.before.known-told.given.0.1 }
+  z_fits = record { sfits = c.in-Numeral.known_told-1-own.given.0.1 }
 
-  is_field : in_columns (slice (l f).loop.at ((l f).loop.at + field_columns) (t f)) ≡ some z
-  is_field = let g = c.before.before.before.before.before.before.field.given in field_some _ z (sym f.numeral.ensures ∙ g.1)
+  is_field : in_columns (slice (l f).loop-left.at ((l f).loop-left.at + field_columns) (t f)) ≡ some z
+  is_field = let g = c.in-Numeral in field_some _ z (sym f.numeral-field.ensures ∙ g.is)
 
-  widths_are : c.before.before.before.both.result ≡ ((l f).loop.widths && is_width z)
+  widths_are : c.both-widths.result ≡ ((l f).loop-left.widths && is_width z)
   widths_are =
       let h = z_fits in
-      c.before.before.before.both.ensures
-      ∙ ap (λ (b : Bool). (l f).loop.widths && b) (simp to_z-of_z at c.before.before.before.before.is-width.ensures)
+      c.both-widths.ensures
+      ∙ ap (λ (b : Bool). (l f).loop-left.widths && b) (simp to_z-of_z at c.is_width.ensures)
 
-  small_are : c.before.before.both2.result ≡ ((l f).loop.small && le_z z (pos hundredths_limit))
-  small_are = let h = z_fits in simp to_z-of_z at c.before.before.both2.ensures
+  small_are : c.both-small.result ≡ ((l f).loop-left.small && le_z z (pos hundredths_limit))
+  small_are = let h = z_fits in simp to_z-of_z at c.both-small.ensures
 
-  nine_is : c.either.result ≡ ((l f).loop.nine || same z hundredths)
-  nine_is = let h = z_fits in c.either.ensures ∙ ap (λ (b : Bool). (l f).loop.nine || b) (simp to_z-of_z at c.before.same.ensures)
+  nine_is : c.either-nine.result ≡ ((l f).loop-left.nine || same z hundredths)
+  nine_is = let h = z_fits in c.either-nine.ensures ∙ ap (λ (b : Bool). (l f).loop-left.nine || b) (simp to_z-of_z at c.same.ensures)
 
-loop-again : tie.Need-loop-preserved invariant-loop decreases-loop
+loop-again : tie.Need-loop-left-preserved invariant-loop decreases-loop
 loop-again c =
     let k = f c in
-    let i = (l k).loop in
+    let i = (l k).loop-left in
     record {
-      within = omega (arith, i.inv.within);
+      within = omega (arith, i.invariant.within);
       told = λ ws e. same_rest (widths_are c) (small_are c) (nine_is c)
-          (next_field (t k) i.at i.left ws i.widths i.small i.nine (i.inv.told ws e) (omega arith) (fits_line k) (z c) (is_field c));
+          (next_field (t k) i.at i.left ws i.widths i.small i.nine (i.invariant.told ws e) (omega arith) (fits_line k) (z c) (is_field c));
     }
 
-returns-2 : tie.Need-returns-2 invariant-loop decreases-loop
+returns-2 : tie.Need-returns invariant-loop decreases-loop
 returns-2 c ws e =
-    let i = c.before.loop in
-    let t = c.before.before.before.args.line.now in
+    let i = c.loop-left in
+    let t = c.args.line.now in
     let over : i.left ≡ 0 = omega arith in
     let r = rest_over t i.at ws i.widths i.small i.nine
     (subst (λ (k : ℕ). Rest t i.at k ws i.widths i.small i.nine) over (i.invariant.told ws e)) in
     record { widths_are = r.0; small_are = r.1.0; nine_is = r.1.1 }
 
-pub fields-before-spec : {M : Type 1} → statement M
-fields-before-spec =
-    tie.close (tie.spec invariant-loop decreases-loop loop-holds (λ c. let w = c.before.loop.invariant.within in omega arith)
-    (λ c κs. let w = c.before.loop.invariant.within in omega arith) (λ c. search rules) returns (λ c. search rules) (λ c κs. search rules)
+pub fields_before_spec : {M : Type 1} → statement M
+fields_before_spec =
+    tie.close (tie.spec invariant-loop decreases-loop loop-holds (λ c. let w = c.loop-left.invariant.within in omega arith)
+    (λ c κs. let w = c.loop-left.invariant.within in omega arith) (λ c. search rules) returns (λ c. search rules) (λ c κs. search rules)
     (λ c κs. search rules) (λ c κs. search rules) (λ c κs. search rules) (λ c κs. search rules)
-    (λ c. let w = (l (f c)).loop.inv.within in omega arith) (λ c. omega arith) (λ c. omega arith) loop-again returns-2)
+    (λ c. let w = (l (f c)).loop-left.invariant.within in omega arith) (λ c. omega arith) (λ c. omega arith) loop-again returns-2)

@@ -28,48 +28,48 @@ module _ (c : tie.Start) where
   line : Stands t
   line = stands t c.requires
 
-returns : tie.Need-returns
+returns : tie.Need-returns-in_default
 returns c =
-    let k = c.before.before.before in
-    let s = line k.before.before in
-    let bad = field-none _ (sym k.numeral.ensures ∙ c.before.enum_told.given.1) in
+    let k = c in
+    let s = line k.before.before.before.before in
+    let bad = field-none _ (sym k.numeral.ensures ∙ c.in_default.is) in
     let y = s.year in
     clash cc
 
 -- a year and a last field
-module _ (c : tie.After-known-told2) where
-  abbrev k : tie.After-numeral2
-  k = c.before.before.before
+module _ (c : tie.In-Numeral-numeral) where
+  abbrev k : tie.After-numeral-2
+  k = c.before
 
   abbrev j : tie.After-numeral
-  j = k.before.before.before.before
+  j = k.before.before
 
   abbrev start : tie.Start
   start = j.before.before
 
-returns-2 : tie.Need-returns-2
+returns-2 : tie.Need-returns-in_default-numeral
 returns-2 c =
-    let k = c.before.before.before in
-    let b = k.before.before.before.before.before.before in let s = line b in
-    let bad = field-none _ (sym k.numeral2.ensures ∙ c.before.enum-told2.given.1) in
+    let k = c in
+    let b = k in let s = line b.before.before.before.before.before.before in
+    let bad = field-none _ (sym k.numeral-2.ensures ∙ c.in_default-numeral.is) in
     let y = s.last in
     clash cc
 
-returns-3 : tie.Need-returns-3
+returns-3 : tie.Need-returns
 returns-3 c =
-    let a = c.before in
-    let s = line (start a) in
+    let a = c in
+    let s = line (start a.before) in
     let l = s.line in
-    let found = c.before.before.before.before.before.before.year.given in let year : ℤ = found.0.0 in
-    let last : ℤ = c.before.before.last.given.0.0 in
-    let year-fits : SFits w32 year = record { sfits = c.before.before.before.before.before.known-told.given.0.1 } in
-    let last_fits : SFits w32 last = record { sfits = a.known-told2.given.0.1 } in
-    let is_year = field_some _ year (sym (j a).numeral.ensures ∙ found.1) in
-    let is_last = field_some _ last (sym (k a).numeral2.ensures ∙ c.before.before.last.given.1) in
+    let found = c.in-Numeral in let year : ℤ = found.year in
+    let last : ℤ = c.in-Numeral-numeral.last in
+    let year-fits : SFits w32 year = record { sfits = c.in-Numeral.known_told-1-own.given.0.1 } in
+    let last_fits : SFits w32 last = record { sfits = a.in-Numeral-numeral.known_told-in-Numeral-numeral-2-1-own.given.0.1 } in
+    let is_year = field_some _ year (sym (j a.before).numeral.ensures ∙ found.is) in
+    let is_last = field_some _ last (sym (k a.before).numeral-2.ensures ∙ c.in-Numeral-numeral.is) in
     let same-year : l.year ≡ year = some-injective _ _ (sym s.year ∙ is_year) in
     let same-last : last_field l.fields ≡ last = some-injective _ _ (sym s.last ∙ is_last) in
-    let others = c.fields-before.ensures (drop_last l.fields)
-    (ap (λ (n : ℕ). field_numerals (n - 1) (slice 12 (length (t (start a))) (t (start a)))) s.count ∙ s.front) in
+    let others = c.fields_before-others.ensures (drop_last l.fields)
+    (ap (λ (n : ℕ). field_numerals (n - 1) (slice 12 (length (t (start a.before))) (t (start a.before)))) s.count ∙ s.front) in
     simp to_z-of_z (record {
       line = l;
       is = s.is;
@@ -86,9 +86,9 @@ returns-3 c =
       };
     })
 
-pub numbers-spec : {M : Type 1} → statement M
-numbers-spec =
+pub numbers_spec : {M : Type 1} → statement M
+numbers_spec =
     tie.close (tie.spec (λ c. let s = line c.before in omega arith) (λ c κs. let s = line c.before in omega arith) (λ c. search rules)
-    (λ c. search rules) (λ c κs. search rules) returns (λ c. let b = c.before.before.before.before.before in let s = line b in omega arith)
+    (λ c. search rules) (λ c κs. search rules) returns (λ c. let b = c in let s = line b.before.before.before in omega arith)
     (λ c κs. search rules) (λ c. search rules) (λ c. search rules) (λ c κs. search rules) returns-2
     (λ c. let s = line (start c) in omega (arith, s.count)) (λ c κs. let s = line (start c) in omega (arith, s.count)) returns-3)

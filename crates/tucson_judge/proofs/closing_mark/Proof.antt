@@ -27,8 +27,8 @@ closing-test : (c : tie.After-same) → let a = c.before.before.before.before.be
 closing-test c =
     let s = c.before.before.before.before.before.before in
     let f = s.ranges.last in
-    let r : SFits w32 c.before.Closing-after.result = record { sfits = c.before.Closing-after.type-inv } in
-    (simp to_z-of_z at c.same.ensures) ∙ ap (λ (z : ℤ). same z hundredths) (simp to_z-of_z at c.before.Closing-after.ensures)
+    let r : SFits w32 c.before.closing_after.result = record { sfits = c.before.closing_after.type-inv } in
+    (simp to_z-of_z at c.same.ensures) ∙ ap (λ (z : ℤ). same z hundredths) (simp to_z-of_z at c.before.closing_after.ensures)
 
 returns-3 : tie.Need-returns-3
 returns-3 c =

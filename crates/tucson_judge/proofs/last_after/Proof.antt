@@ -18,8 +18,8 @@ returns-2 : tie.Need-returns-2
 returns-2 c =
     let s = c.before.before in
     let f = s.ranges.last in
-    let r : SFits w32 c.Closing-after.result = record { sfits = c.Closing-after.type-inv } in
-    simp to_z-of_z (simp to_z-of_z at c.Closing-after.ensures) ∙ sym (last-closed s.args.unit s.args.last s.args.goes c.before.if1.false)
+    let r : SFits w32 c.closing_after.result = record { sfits = c.closing_after.type-inv } in
+    simp to_z-of_z (simp to_z-of_z at c.closing_after.ensures) ∙ sym (last-closed s.args.unit s.args.last s.args.goes c.before.if1.false)
 
 pub last-after-spec : {M : Type 1} → statement M
 last-after-spec = tie.close (tie.spec returns (λ c κs. search rules) returns-2)

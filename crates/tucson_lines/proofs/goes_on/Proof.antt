@@ -14,7 +14,7 @@ use Rattle.tucson_lines.proofs.goes_on.Tie as tie
 
 returns : tie.Need-returns
 returns c =
-    let s = c.before.before.before in
+    let s = c in
     let text : Text = s.args.text.now in
     let e : s.args.from + name_columns - s.args.from ≡ name_columns = omega arith in
     let name : take (s.args.from + name_columns - s.args.from) (drop s.args.from text) ≡ slice s.args.from (s.args.from + name_columns) text =
@@ -22,5 +22,5 @@ returns c =
     c.begins.ensures ∙ ap (λ (key : Text). begins_with key (slice (s.args.end + 1) (length text) text)) name
     ∙ sym (goes_on_is s.args.text.now s.args.from s.args.end s.requires.longer s.requires.ended s.requires.named)
 
-pub goes-on-spec : {M : Type 1} → statement M
-goes-on-spec = tie.close (tie.spec (λ c. search rules) (λ c. search rules) (λ c. search rules) (λ c. search rules) (λ c. search rules) (λ c κs. search rules) returns)
+pub goes_on_spec : {M : Type 1} → statement M
+goes_on_spec = tie.close (tie.spec (λ c. search rules) (λ c. search rules) (λ c. search rules) (λ c. search rules) (λ c. search rules) (λ c κs. search rules) returns)

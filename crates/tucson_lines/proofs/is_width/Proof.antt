@@ -7,7 +7,7 @@ use Rattle.tucson_lines.proofs.is_width.Tie as tie
 
 returns : tie.Need-returns
 unfolding is_width
-returns c = let f = c.before.ranges.field in simp to_z-of_z at c.both.ensures
+returns c = let f = c.ranges.field in simp to_z-of_z at c.both.ensures
 
-pub is-width-spec : {M : Type 1} → statement M
-is-width-spec = tie.close (tie.spec (λ c κs. search rules) returns)
+pub is_width_spec : {M : Type 1} → statement M
+is_width_spec = tie.close (tie.spec (λ c κs. search rules) returns)

@@ -6,8 +6,8 @@ use Rattle.tucson_lines.proofs.same.Tie as tie
 
 returns : tie.Need-returns
 returns c =
-    let f = c.before.ranges.a in
-    let g = c.before.ranges.b in
+    let f = c.ranges.a in
+    let g = c.ranges.b in
     simp to_z-of_z at c.both.ensures
 
 pub same_spec : {M : Type 1} → statement M

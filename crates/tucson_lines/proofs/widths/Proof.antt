@@ -1,6 +1,5 @@
 -- A field that is a width leaves the answer to the fields behind it.
 use borrow.Author.Rules.{rules}
-use borrow.Author.Tests.{not-true, not-false}
 use mathlib.Core.Bool.{Bool, true, false, ◌&&◌}
 use mathlib.Core.List.{List}
 use mathlib.Core.Option.{Option}
@@ -27,28 +26,28 @@ record Reading (text : Text) (from to n : ℕ) (small : Bool) (at left : ℕ) : 
   within : at + left * field_columns ≤ to
   told : widths_told true (field_numerals n (slice from to text)) ≡ widths_told small (field_numerals left (slice at to text))
 
-abbrev invariant-loop : tie.invariant-loop
+abbrev invariant-loop : tie.invariant-loop-left
 invariant-loop text from to n small₀ at₀ left₀ small at left = Reading text from to n small at left
 
-abbrev decreases-loop : tie.decreases-loop
+abbrev decreases-loop : tie.decreases-loop-left
 decreases-loop text from to n small₀ at₀ left₀ small at left = left
 
-loop-holds : tie.Need-loop-init invariant-loop decreases-loop
+loop-holds : tie.Need-loop-left-init invariant-loop decreases-loop
 loop-holds c = record { within = omega arith; told = refl }
 
 -- a turn's field, and the answer by it and the fields behind it
-module _ (c : tie.After-numeral invariant-loop decreases-loop) where
+module _ (c : tie.After-numeral-field invariant-loop decreases-loop) where
   abbrev s : tie.Start invariant-loop decreases-loop
   s = c.before.before.before.before
 
   abbrev at : ℕ
-  at = c.before.before.loop.at
+  at = c.loop-left.at
 
   abbrev left : ℕ
-  left = c.before.before.loop.left
+  left = c.loop-left.left
 
   abbrev small : Bool
-  small = c.before.before.loop.small
+  small = c.loop-left.small
 
   abbrev here : Option ℤ
   here = in_columns (slice at (at + field_columns) s.args.text.now)
@@ -57,48 +56,48 @@ module _ (c : tie.After-numeral invariant-loop decreases-loop) where
   others = field_numerals (left - 1) (slice (at + field_columns) s.args.to s.args.text.now)
 
   so-far : widths_told true (field_numerals s.args.n (slice s.args.from s.args.to s.args.text.now)) ≡ widths_told small (with_field here others)
-  so-far = c.before.before.loop.invariant.told ∙ ap (widths_told small) (fields-first left s.args.text.now at s.args.to (omega arith) (omega arith))
+  so-far = c.loop-left.invariant.told ∙ ap (widths_told small) (fields-first left s.args.text.now at s.args.to (omega arith) (omega arith))
 
-returns : tie.Need-returns invariant-loop decreases-loop
+returns : tie.Need-returns-in-Bad invariant-loop decreases-loop
 returns c =
-    let f = c.before.before in
-    sym (so-far f ∙ widths_no_numeral (small f) (here f) (others f) (field-none _ (sym f.numeral.ensures ∙ c.enum_told.given.1)))
+    let f = c in
+    sym (so-far f.before ∙ widths_no_numeral (small f.before) (here f.before) (others f.before) (field-none _ (sym f.numeral-field.ensures ∙ c.in-Bad.is)))
 
-returns-2 : tie.Need-returns-2 invariant-loop decreases-loop
+returns-2 : tie.Need-returns-then-not-is_width invariant-loop decreases-loop
 returns-2 c =
-    let k = c.before.before in
-    let f = k.before.before.before in
-    let z = k.before.field.given.0.0 in
-    let fits : SFits w32 z = record { sfits = k.known-told.given.0.1 } in
-    let no-width : is_width z ≡ false = sym (simp to_z-of_z at c.before.is-width.ensures) ∙ not-true _ c.if1.true in
-    sym (so-far f ∙ widths_no_width (small f) (here f) z (others f) (field_some _ z (sym f.numeral.ensures ∙ k.before.field.given.1)) no-width)
+    let k = c in
+    let f = k in
+    let z = k.in-Numeral.z in
+    let fits : SFits w32 z = record { sfits = k.in-Numeral.known_told-1-own.given.0.1 } in
+    let no-width : is_width z ≡ false = sym (simp to_z-of_z at c.is_width.ensures) ∙ c.if-not-is_width.true in
+    sym (so-far f.before.before.before ∙ widths_no_width (small f.before.before.before) (here f.before.before.before) z (others f.before.before.before) (field_some _ z (sym f.numeral-field.ensures ∙ k.in-Numeral.is)) no-width)
 
-loop-again : tie.Need-loop-preserved invariant-loop decreases-loop
+loop-again : tie.Need-loop-left-preserved invariant-loop decreases-loop
 loop-again c =
-    let w = c.before.before in
-    let k = w.before in
-    let f = k.before.before.before in
-    let z = k.before.field.given.0.0 in
-    let fits : SFits w32 z = record { sfits = k.known-told.given.0.1 } in
-    let is-width : is_width z ≡ true = sym (simp to_z-of_z at w.is-width.ensures) ∙ not-false _ c.before.if1.false in
-    let both : c.both.result ≡ (small f && le_z z (pos hundredths_limit)) = simp to_z-of_z at c.both.ensures in
-    let is = field_some _ z (sym f.numeral.ensures ∙ k.before.field.given.1) in
+    let w = c in
+    let k = w in
+    let f = k in
+    let z = k.in-Numeral.z in
+    let fits : SFits w32 z = record { sfits = k.in-Numeral.known_told-1-own.given.0.1 } in
+    let is-width : is_width z ≡ true = sym (simp to_z-of_z at w.is_width.ensures) ∙ c.if-not-is_width.false in
+    let both : c.both-small.result ≡ (small f.before.before.before.before && le_z z (pos hundredths_limit)) = simp to_z-of_z at c.both-small.ensures in
+    let is = field_some _ z (sym f.numeral-field.ensures ∙ k.in-Numeral.is) in
     record {
       within = omega arith;
       told =
-          so-far f ∙ widths_next (small f) (here f) z (others f) is is-width
-          ∙ ap (λ (b : Bool). widths_told b (others f)) (sym both);
+          so-far f.before.before.before.before ∙ widths_next (small f.before.before.before.before) (here f.before.before.before.before) z (others f.before.before.before.before) is is-width
+          ∙ ap (λ (b : Bool). widths_told b (others f.before.before.before.before)) (sym both);
     }
 
-returns-3 : tie.Need-returns-3 invariant-loop decreases-loop
+returns-3 : tie.Need-returns invariant-loop decreases-loop
 returns-3 c =
-    let l = c.before.loop in
-    let s = c.before.before.before in
+    let l = c.loop-left in
+    let s = c in
     let e : l.left ≡ 0 = omega arith in
     sym (l.invariant.told ∙ ap (λ (n : ℕ). widths_told l.small (field_numerals n (slice l.at s.args.to s.args.text.now))) e ∙ widths_end l.small _)
 
-pub widths-spec : {M : Type 1} → statement M
-widths-spec =
+pub widths_spec : {M : Type 1} → statement M
+widths_spec =
     tie.close
     (tie.spec
     invariant-loop

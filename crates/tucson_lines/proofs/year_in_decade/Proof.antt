@@ -23,43 +23,43 @@ unfolding year_in_decade
 natural-year z h = sym (ap year_in_decade (is_pos z h))
 
 -- a year below zero
-module _ (c : tie.Then1) where
+module _ (c : tie.Then-year-lt0) where
   abbrev year : ℤ
-  year = c.before.args.year
+  year = c.args.year
 
   below : year <ℤ pos 0
-  below = let f = c.before.ranges.year in lt_z_true _ _ (simp to_z-of_z at c.if1.true)
+  below = let f = c.ranges.year in lt_z_true _ _ (simp to_z-of_z at c.if-year-lt0.true)
 
   turned-fits : SFits w32 (negsuc 0 -ℤ year)
-  turned-fits = rw (flip year below) (record { sfits = c.before.ranges.year.sfits })
+  turned-fits = rw (flip year below) (record { sfits = c.ranges.year.sfits })
 
   turned-above : pos 0 ≤ℤ (negsuc 0 -ℤ year)
   turned-above = rw (flip year below) (≤_in (pos 0) (pos (mag year)) (omega arith))
 
 -- a year from zero on
-above : (c : tie.Else1) → pos 0 ≤ℤ c.before.args.year
-above c = let f = c.before.ranges.year in lt_z_false _ _ (simp to_z-of_z at c.if1.false)
+above : (c : tie.Else-year-lt0) → pos 0 ≤ℤ c.args.year
+above c = let f = c.ranges.year in lt_z_false _ _ (simp to_z-of_z at c.if-year-lt0.false)
 
-sub-result-2 : tie.Need-overflow-sub-result-2
-sub-result-2 c = let f = c.before.ranges.year in simp to_z-of_z (turned-fits c)
+sub-result-2 : tie.Need-overflow_sub-result-then-year-lt0
+sub-result-2 c = let f = c.ranges.year in simp to_z-of_z (turned-fits c)
 
-cast-result : tie.Need-overflow-cast-result
+cast-result : tie.Need-overflow_cast-result
 cast-result c =
-    let f = c.before.ranges.year in
+    let f = c.ranges.year in
     let g = turned-fits c in
     simp to_z-of_z (fits-unsigned (turned-above c) g)
 
-returns : tie.Need-returns
+returns : tie.Need-returns-then-year-lt0
 returns c =
-    let f = c.before.ranges.year in
+    let f = c.ranges.year in
     let g = turned-fits c in
     simp to_z-of_z (negative-year (year c) (below c))
 
-cast-result-3 : tie.Need-overflow-cast-result-3
-cast-result-3 c = let f = c.before.ranges.year in simp to_z-of_z (fits-unsigned (above c) f)
+cast-result-3 : tie.Need-overflow_cast-result-2
+cast-result-3 c = let f = c.ranges.year in simp to_z-of_z (fits-unsigned (above c) f)
 
-returns-2 : tie.Need-returns-2
-returns-2 c = let f = c.before.ranges.year in simp to_z-of_z (natural-year _ (above c))
+returns-2 : tie.Need-returns
+returns-2 c = let f = c.ranges.year in simp to_z-of_z (natural-year _ (above c))
 
-pub year-in-decade-spec : {M : Type 1} → statement M
-year-in-decade-spec = tie.close (tie.spec (λ c. search rules) sub-result-2 cast-result (λ c. search rules) (λ c. search rules) returns cast-result-3 (λ c. search rules) returns-2)
+pub year_in_decade_spec : {M : Type 1} → statement M
+year_in_decade_spec = tie.close (tie.spec (λ c. search rules) sub-result-2 cast-result (λ c. search rules) (λ c. search rules) returns cast-result-3 (λ c. search rules) returns-2)

@@ -7,8 +7,8 @@ use Rattle.tucson_names.proofs.NameColumns.{digit_top}
 use Rattle.tucson_names.proofs.is_digit.Statement.{statement}
 use Rattle.tucson_names.proofs.is_digit.Tie as tie
 
-returns-2 : tie.Need-returns-2
-returns-2 c = rw (le-leb digit_zero _ c.if1.false) (digit_top c.before.args.c)
+returns-2 : tie.Need-returns
+returns-2 c = rw (le-leb digit_zero _ c.if-c-lt48.false) (digit_top c.args.c)
 
-pub is-digit-spec : {M : Type 1} → statement M
-is-digit-spec = tie.close (tie.spec (λ c. rw (lt-leb digit_zero _ c.if1.true)) returns-2)
+pub is_digit_spec : {M : Type 1} → statement M
+is_digit_spec = tie.close (tie.spec (λ c. rw (lt-leb digit_zero _ c.if-c-lt48.true)) returns-2)

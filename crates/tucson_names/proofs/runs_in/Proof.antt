@@ -6,21 +6,21 @@ use Rattle.tucson_names.proofs.NameColumns.{yes_or, no_or, yes_and, no_and}
 use Rattle.tucson_names.proofs.runs_in.Statement.{statement}
 use Rattle.tucson_names.proofs.runs_in.Tie as tie
 
-returns : tie.Need-returns
+returns : tie.Need-returns-then-year_in_name
 unfolding runs_in
-returns c = sym (yes_or _ (sym c.before.year-in-name.ensures ∙ c.if1.true))
+returns c = sym (yes_or _ (sym c.year_in_name.ensures ∙ c.if-year_in_name.true))
 
-returns-2 : tie.Need-returns-2
+returns-2 : tie.Need-returns-then-alone
 unfolding runs_in
 returns-2 c =
-    let k = c.before.before in
-    c.is-shifted.ensures ∙ sym (no_or (sym k.before.year-in-name.ensures ∙ k.if1.false) (yes_and c.before.if2.true refl))
+    let k = c in
+    c.is_shifted.ensures ∙ sym (no_or (sym k.year_in_name.ensures ∙ k.if-year_in_name.false) (yes_and c.if-alone.true refl))
 
-returns-3 : tie.Need-returns-3
+returns-3 : tie.Need-returns
 unfolding runs_in
 returns-3 c =
-    let k = c.before in
-    sym (no_or (sym k.before.year-in-name.ensures ∙ k.if1.false) (no_and _ c.if2.false))
+    let k = c in
+    sym (no_or (sym k.year_in_name.ensures ∙ k.if-year_in_name.false) (no_and _ c.if-alone.false))
 
-pub runs-in-spec : {M : Type 1} → statement M
-runs-in-spec = tie.close (tie.spec (λ c κs. search rules) returns (λ c κs. search rules) returns-2 returns-3)
+pub runs_in_spec : {M : Type 1} → statement M
+runs_in_spec = tie.close (tie.spec (λ c κs. search rules) returns (λ c κs. search rules) returns-2 returns-3)

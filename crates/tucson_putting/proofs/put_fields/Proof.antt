@@ -19,44 +19,44 @@ record Inv (text₀ : List ℕ) (at : ℕ) (widths : List ℤ) (text : List ℕ)
   within : i ≤ length widths
   wrote : Wrote at (fields_text (take i widths)) text₀ text next
 
-abbrev invariant-loop : tie.invariant-loop
+abbrev invariant-loop : tie.invariant-loop-i
 invariant-loop text₀ at widths next₀ i₀ text next i = Inv text₀ at widths text next i
 
-abbrev decreases-loop : tie.decreases-loop
+abbrev decreases-loop : tie.decreases-loop-i
 decreases-loop text₀ at widths next₀ i₀ text next i = length widths - i
 
-loop-holds : tie.Need-loop-init invariant-loop decreases-loop
-loop-holds c = record { within = omega arith; wrote = wrote_as (fields-none c.before.args.widths.now) (wrote_none _ _) }
+loop-holds : tie.Need-loop-i-init invariant-loop decreases-loop
+loop-holds c = record { within = omega arith; wrote = wrote_as (fields-none c.args.widths.now) (wrote_none _ _) }
 
-put-columns-requires : tie.Need-put-columns-requires invariant-loop decreases-loop
+put-columns-requires : tie.Need-put_columns-next-requires invariant-loop decreases-loop
 put-columns-requires c κs =
-    let s = c.before.before.before.before.before in
-    let l = c.before.before.before.loop in
+    let s = c in
+    let l = c.loop-i in
     let ws = s.args.widths.now in
-    let f : SFits w32 (get_or ws l.i (pos 0)) = record { sfits = c.put-columns-arg2.given } in
+    let f : SFits w32 (get_or ws l.i (pos 0)) = record { sfits = c.put_columns-arg-in-loop-i-1.given } in
     let wrote = l.invariant.wrote in
     simp to_z-of_z (record {
       short = width_length ws l.i (omega arith) s.requires.allowed;
       fits = omega (arith, wrote.behind, wrote_length wrote, taken_length ws l.i l.invariant.within s.requires.allowed, s.requires.fits);
     })
 
-loop-again : tie.Need-loop-preserved invariant-loop decreases-loop
+loop-again : tie.Need-loop-i-preserved invariant-loop decreases-loop
 loop-again c =
-    let s = c.before.before.before.before.before.before.before.before in
-    let l = c.before.before.before.before.before.before.loop in
+    let s = c in
+    let l = c.loop-i in
     let ws = s.args.widths.now in
-    let f : SFits w32 (get_or ws l.i (pos 0)) = record { sfits = c.before.before.before.put-columns-arg2.given } in
+    let f : SFits w32 (get_or ws l.i (pos 0)) = record { sfits = c.put_columns-arg-in-loop-i-1.given } in
     record {
       within = omega arith;
-      wrote = wrote_as (sym (fields_more ws l.i (omega arith))) (wrote_then l.invariant.wrote (simp to_z-of_z at c.before.before.put-columns.ensures));
+      wrote = wrote_as (sym (fields_more ws l.i (omega arith))) (wrote_then l.invariant.wrote (simp to_z-of_z at c.put_columns-next.ensures));
     }
 
 returns : tie.Need-returns invariant-loop decreases-loop
 returns c =
-    let l = c.before.loop in
-    wrote_as (fields_all c.before.before.before.args.widths.now l.i c.loop-test.false) l.invariant.wrote
+    let l = c.loop-i in
+    wrote_as (fields_all c.args.widths.now l.i c.loop-i-test.false) l.invariant.wrote
 
-pub put-fields-spec : {M : Type 1} → statement M
-put-fields-spec =
+pub put_fields_spec : {M : Type 1} → statement M
+put_fields_spec =
     tie.close (tie.spec invariant-loop decreases-loop loop-holds (λ c. omega arith) (λ c. omega arith) put-columns-requires (λ c. omega arith)
-    (λ c. omega arith) loop-again (λ c. wrote_length c.before.loop.invariant.wrote) returns)
+    (λ c. omega arith) loop-again (λ c. wrote_length c.loop-i.invariant.wrote) returns)

@@ -11,7 +11,7 @@ use Rattle.tucson_putting.proofs.year_at.Tie as tie
 returns : tie.Need-returns
 returns c = rw (to_z_pos w32 c.args.left (omega arith)) (to_z-of_z w32 (year_at c.args.left) (year_at_fits c.args.left c.requires))
 
-pub year-at-spec : {M : Type 1} → statement M
-year-at-spec =
+pub year_at_spec : {M : Type 1} → statement M
+year_at_spec =
     tie.close (tie.spec (λ c. search rules) (λ c. rw (to_z_pos w32 c.args.left (omega arith)) (year_at_fits c.args.left c.requires))
     returns)

@@ -29,45 +29,45 @@ module _ (c : tie.After-same) where
   f = c.before.before
 
   follows : (not (s f).args.begun || (same (s f).args.year (s f).args.next && eqb (year_in_decade (s f).args.year) 0)) ≡ true
-  follows = sym (year-test f) ∙ not-false _ c.before.if1.false
+  follows = sym (year-test f) ∙ c.if-not-follows.false
 
   thousandths-test : c.same.result ≡ same (s f).args.last thousandths
   thousandths-test = let g = (s f).fits.last in simp to_z-of_z at c.same.ensures
 
 -- and for the other
-module _ (c : tie.After-both2) where
+module _ (c : tie.After-both) where
   abbrev t : tie.After-same
   t = c.before.before.before.before
 
-  hundredths-test : c.both2.result ≡ (same (s (f t)).args.last hundredths && ((s (f t)).args.small && (s (f t)).args.front))
+  hundredths-test : c.both.result ≡ (same (s (f t)).args.last hundredths && ((s (f t)).args.small && (s (f t)).args.front))
   hundredths-test =
       let g = (s (f t)).fits.last in
-      c.both2.ensures ∙ ap₂ ◌&&◌ (simp to_z-of_z at c.before.same2.ensures) c.before.before.both.ensures
+      c.both.ensures ∙ ap₂ ◌&&◌ (simp to_z-of_z at c.same-2.ensures) c.both-all.ensures
 
-returns : tie.Need-returns
+returns : tie.Need-returns-then-not-follows
 returns c = record {
-  told = λ place b t tracks told. close_not_next place b t _ _ _ tracks told (sym (year-test c.before) ∙ not-true _ c.if1.true);
+  told = λ place b t tracks told. close_not_next place b t _ _ _ tracks told (sym (year-test c.before) ∙ c.if-not-follows.true);
   within = tt;
 }
 
-returns-2 : tie.Need-returns-2
+returns-2 : tie.Need-returns-then-same
 returns-2 c = record {
-  told = λ place b t tracks told. close_thousandths place b t _ _ _ tracks told (follows c.before) (sym (thousandths-test c.before) ∙ c.if2.true);
+  told = λ place b t tracks told. close_thousandths place b t _ _ _ tracks told (follows c.before) (sym (thousandths-test c.before) ∙ c.if-same.true);
   within = (refl, omega arith);
 }
 
-returns-3 : tie.Need-returns-3
+returns-3 : tie.Need-returns-then-both
 returns-3 c =
     let k = t c.before in
-    let no = sym (thousandths-test k) ∙ c.before.before.before.before.if2.false in
-    let test = sym (hundredths-test c.before) ∙ c.if3.true in
+    let no = sym (thousandths-test k) ∙ c.if-same.false in
+    let test = sym (hundredths-test c.before) ∙ c.if-both.true in
     record { told = λ place b t tracks told. close_hundredths place b t _ _ _ tracks told (follows k) no test; within = (refl, omega arith) }
 
-returns-4 : tie.Need-returns-4
+returns-4 : tie.Need-returns
 returns-4 c =
     let k = t c.before in
-    let no = sym (thousandths-test k) ∙ c.before.before.before.before.if2.false in
-    let test = sym (hundredths-test c.before) ∙ c.if3.false in
+    let no = sym (thousandths-test k) ∙ c.if-same.false in
+    let test = sym (hundredths-test c.before) ∙ c.if-both.false in
     record { told = λ place b t tracks told. close_unclosed place b t _ _ _ tracks told (follows k) no test; within = tt }
 
 pub close_spec : {M : Type 1} → statement M

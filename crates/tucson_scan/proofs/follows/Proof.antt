@@ -10,16 +10,16 @@ use Rattle.spec_tucson.specs.Line.{same, year_in_decade}
 use Rattle.tucson_scan.proofs.follows.Statement.{statement}
 use Rattle.tucson_scan.proofs.follows.Tie as tie
 
-returns-2 : tie.Need-returns-2
+returns-2 : tie.Need-returns
 returns-2 c =
-    let s = c.before.before.before.before in
+    let s = c in
     let f = s.ranges.year in
     let g = s.ranges.next in
-    let y : c.before.year-in-decade.result ≡ year_in_decade s.args.year = simp to_z-of_z at c.before.year-in-decade.ensures in
-    let d : c.before.before.same.result ≡ same s.args.year s.args.next = simp to_z-of_z at c.before.before.same.ensures in
+    let y : c.year_in_decade.result ≡ year_in_decade s.args.year = simp to_z-of_z at c.year_in_decade.ensures in
+    let d : c.same.result ≡ same s.args.year s.args.next = simp to_z-of_z at c.same.ensures in
     c.both.ensures ∙ ap₂ (λ (a : Bool) (k : ℕ). a && eqb k 0) d y
     ∙ sym (ap (λ (b : Bool). not b || (same s.args.year s.args.next && eqb (year_in_decade s.args.year) 0))
-    (not-false s.args.begun c.before.before.before.if1.false))
+    (not-false s.args.begun c.if-not-begun.false))
 
-pub follows-spec : {M : Type 1} → statement M
-follows-spec = tie.close (tie.spec (λ c. search rules) (λ c κs. search rules) (λ c κs. search rules) (λ c κs. search rules) returns-2)
+pub follows_spec : {M : Type 1} → statement M
+follows_spec = tie.close (tie.spec (λ c. search rules) (λ c κs. search rules) (λ c κs. search rules) (λ c κs. search rules) returns-2)

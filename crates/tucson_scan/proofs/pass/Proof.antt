@@ -25,9 +25,9 @@ use Rattle.tucson_scan.proofs.pass.Statement.{statement}
 use Rattle.tucson_scan.proofs.pass.Tie as tie
 
 -- a good line
-module _ (c : tie.After-known-told) where
+module _ (c : tie.In-Good) where
   abbrev s : tie.Start
-  s = c.before.before.before.before.before
+  s = c.before.before.before
 
   abbrev text : Text
   text = s.args.text.now
@@ -45,51 +45,51 @@ module _ (c : tie.After-known-told) where
   later = lines_of (drop (end + 1) text)
 
   abbrev year : ℤ
-  year = c.before.line2.given.0.0
+  year = c.in-Good.year
 
   abbrev n : ℕ
-  n = c.before.line2.given.0.1.0
+  n = c.in-Good.n
 
   abbrev front : Bool
-  front = c.before.line2.given.0.1.1.0
+  front = c.in-Good.front
 
   abbrev last : ℤ
-  last = c.before.line2.given.0.1.1.1.0
+  last = c.in-Good.last
 
   year-fits : SFits w32 year
-  year-fits = record { sfits = c.known-told.given.0.1 }
+  year-fits = record { sfits = c.in-Good.known_told-1-own.given.0.1 }
 
   last_fits : SFits w32 last
-  last_fits = record { sfits = c.known-told.given.1.1.1.0.1 }
+  last_fits = record { sfits = c.in-Good.known_told-1-own.given.1.1.1.0.1 }
 
   told : line_told (good_line true t) ≡ Good year n front last
-  told = sym c.before.before.before.line.ensures ∙ c.before.line2.given.1
+  told = sym c.line-line.ensures ∙ c.in-Good.is
 
   is_line : IsLine (good_line true t) year n front last
   is_line = line_some (good_line true t) year n front last told
 
-  good : GoodLine text from end is_line.line
-  good = good-line text from end s.pre is_line.line is_line.is
+  good : GoodLine text from end is_line.line-line
+  good = good-line text from end s.requires is_line.line-line is_line.is
 
-  count : length is_line.line.fields ≡ n
+  count : length is_line.line-line.fields ≡ n
   count = (says is_line.told).count_is
 
-goes-on-requires : tie.Need-goes-on-requires
+goes-on-requires : tie.Need-goes_on-requires
 goes-on-requires c κs = let g = good c in record { longer = omega (arith, g.size); ended = omega (arith, g.ended); named = g.named }
 
 extend-requires : tie.Need-extend-requires
 extend-requires c κs =
-    let k = c.before.before in
-    let f = year-fits k in
+    let k = c in
+    let f = year-fits k.before.before in
     simp to_z-of_z (record {
-      year-small = rw (says (is_line k).told).year_is at (good k).year-small;
-      some_field = omega (arith, count k, (good k).some_field);
-      few = omega (arith, count k, (good k).few);
+      year-small = rw (says (is_line k.before.before).told).year_is at (good k.before.before).year-small;
+      some_field = omega (arith, count k.before.before, (good k.before.before).some_field);
+      few = omega (arith, count k.before.before, (good k.before.before).few);
     })
 
 -- what is told of the line's step, by the answer of the one or the other function
-module _ (g : tie.After-goes-on) where
-  abbrev k : tie.After-known-told
+module _ (g : tie.After-goes_on) where
+  abbrev k : tie.In-Good
   k = g.before
 
   step_told : {more : Bool} → g.goes_on.result ≡ more → (place : ℕ) (b : Option Begun) (r : Passed) → Told place b (read_line place b more (t k)) r
@@ -101,26 +101,26 @@ module _ (g : tie.After-goes-on) where
       advances (text k) (from k) (end k) goes (n k) r w (good k).ended (omega (arith, (good k).size, count k))
       (λ yes. followed_by (text k) (t k) (end k + 1) (sym g.goes_on.ensures ∙ e ∙ yes))
 
-returns : tie.Need-returns
+returns : tie.Need-returns-then-goes_on
 returns c =
-    let g = c.before.before in
-    let f = year-fits (k g) in
-    let h = last_fits (k g) in
-    let y = (s (k g)).fits.next in
+    let g = c in
+    let f = year-fits (k g.before.before) in
+    let h = last_fits (k g.before.before) in
+    let y = (s (k g.before.before)).fits.next in
     let r = c.extend.result in
     let passed = simp to_z-of_z at c.extend.ensures in
     record {
-      told = λ place b tracks. step_told g c.before.if1.true place b r (passed.told place b (t (k g)) tracks (told (k g)));
-      advances = ahead g true r c.before.if1.true passed.within;
+      told = λ place b tracks. step_told g.before.before c.if-goes_on.true place b r (passed.told place b (t (k g.before.before)) tracks (told (k g.before.before)));
+      advances = ahead g.before.before true r c.if-goes_on.true passed.within;
     }
 
-returns-2 : tie.Need-returns-2
+returns-2 : tie.Need-returns-in-Bad
 returns-2 c =
-    let a = c.before.before in
-    let bad = line-none _ (sym a.line.ensures ∙ c.enum_told.given.1) in
+    let a = c in
+    let bad = line-none _ (sym a.line-line.ensures ∙ c.in-Bad.is) in
     record { told = λ place b tracks. line_refused place b _ _ bad; advances = tt }
 
-returns-3 : tie.Need-returns-3
+returns-3 : tie.Need-returns-else-goes_on
 returns-3 c =
     let g = c.before.before in
     let f = year-fits (k g) in
@@ -129,11 +129,11 @@ returns-3 c =
     let r = c.close.result in
     let passed = simp to_z-of_z at c.close.ensures in
     record {
-      told = λ place b tracks. step_told g c.before.if1.false place b r (passed.told place b (t (k g)) tracks (told (k g)));
-      advances = ahead g false r c.before.if1.false passed.within;
+      told = λ place b tracks. step_told g c.before.if-goes_on.false place b r (passed.told place b (t (k g)) tracks (told (k g)));
+      advances = ahead g false r c.before.if-goes_on.false passed.within;
     }
 
 pub pass_spec : {M : Type 1} → statement M
 pass_spec =
     tie.close (tie.spec (λ c κs. search rules) (λ c. search rules) (λ c. search rules) goes-on-requires extend-requires returns
-    (λ c κs. let k = c.before.before in omega (arith, count k, (good k).some_field)) returns-2 returns-3)
+    (λ c κs. let k = c in omega (arith, count k.before.before, (good k.before.before).some_field)) returns-2 returns-3)

@@ -22,15 +22,15 @@ use Rattle.tucson_scan.proofs.Counts.{Scans, scans-start, scans_end, scans_refus
 use Rattle.tucson_scan.proofs.scan.Statement.{statement}
 use Rattle.tucson_scan.proofs.scan.Tie as tie
 
-abbrev invariant-loop : tie.invariant-loop
+abbrev invariant-loop : tie.invariant-loop-from
 invariant-loop text from₀ lines₀ series₀ total₀ begun₀ next₀ small₀ from lines series total begun next small =
     Scans text from lines series total begun (to_z w32 next) small
 
-abbrev decreases-loop : tie.decreases-loop
+abbrev decreases-loop : tie.decreases-loop-from
 decreases-loop text from₀ lines₀ series₀ total₀ begun₀ next₀ small₀ from lines series total begun next small = length text - from
 
 -- a line
-module _ (c : tie.After-find invariant-loop decreases-loop) where
+module _ (c : tie.After-find-end invariant-loop decreases-loop) where
   abbrev s : tie.Start invariant-loop decreases-loop
   s = c.before.before.before.before
 
@@ -38,80 +38,80 @@ module _ (c : tie.After-find invariant-loop decreases-loop) where
   text = s.args.text.now
 
   abbrev from : ℕ
-  from = c.before.before.loop.from
+  from = c.loop-from.from
 
   abbrev end : ℕ
-  end = c.find.result
+  end = c.find-end.result
 
   line_end : LineEnd text from end
-  line_end = record { within = c.before.before.loop.invariant.within; is = c.find.ensures }
+  line_end = record { within = c.loop-from.invariant.within; is = c.find-end.ensures }
 
 -- what is told of it
-module _ (c : tie.After-pass invariant-loop decreases-loop) where
-  abbrev f : tie.After-find invariant-loop decreases-loop
+module _ (c : tie.After-pass-passed invariant-loop decreases-loop) where
+  abbrev f : tie.After-find-end invariant-loop decreases-loop
   f = c.before
 
-  abbrev l : tie.At-loop invariant-loop decreases-loop
+  abbrev l : tie.At-loop-from invariant-loop decreases-loop
   l = f.before.before
 
-  abbrev inv : Scans (text f) (from f) l.loop.lines l.loop.series l.loop.total l.loop.begun (to_z w32 l.loop.next) l.loop.small
-  inv = l.loop.inv
+  abbrev inv : Scans (text f) (from f) l.loop-from.lines l.loop-from.series l.loop-from.total l.loop-from.begun (to_z w32 l.loop-from.next) l.loop-from.small
+  inv = l.loop-from.invariant
 
   abbrev line : Text
   line = slice (from f) (end f + 1) (text f)
 
   abbrev step : Outcome Step
-  step = read_line l.loop.lines inv.series-begun (goes_on line (lines_of (drop (end f + 1) (text f)))) line
+  step = read_line l.loop-from.lines inv.series-begun (goes_on line (lines_of (drop (end f + 1) (text f)))) line
 
-  step_told : {r : Passed} → c.pass.result ≡ r → Told l.loop.lines inv.series-begun step r
+  step_told : {r : Passed} → c.pass-passed.result ≡ r → Told l.loop-from.lines inv.series-begun step r
   step_told e =
-      subst (Told l.loop.lines inv.series-begun step) e (c.pass.ensures.told l.loop.lines inv.series-begun inv.tracks)
+      subst (Told l.loop-from.lines inv.series-begun step) e (c.pass-passed.ensures.told l.loop-from.lines inv.series-begun inv.tracks)
 
 -- a line that is not refused
-module _ (c : tie.After-whole invariant-loop decreases-loop) where
-  abbrev p : tie.After-pass invariant-loop decreases-loop
-  p = c.before.before.before.before
+module _ (c : tie.After-whole-series invariant-loop decreases-loop) where
+  abbrev p : tie.After-pass-passed invariant-loop decreases-loop
+  p = c.before.before
 
   abbrev more : Bool
-  more = c.before.before.passed2.given.0.0
+  more = c.in-On.more
 
   abbrev n : ℕ
-  n = c.before.before.passed2.given.0.1.0
+  n = c.in-On.n
 
   abbrev year : ℤ
-  year = c.before.before.passed2.given.0.1.1.0
+  year = c.in-On.year
 
   abbrev all : Bool
-  all = c.before.before.passed2.given.0.1.1.1.0
+  all = c.in-On.all
 
   year-fits : SFits w32 year
-  year-fits = record { sfits = c.before.known-told2.given.1.1.0.1 }
+  year-fits = record { sfits = c.in-On.known_told-in-On-1-own.given.1.1.0.1 }
 
   ahead : Ahead (text (f p)) (from (f p)) (end (f p)) more n
-  ahead = subst (Advances (text (f p)) (from (f p)) (end (f p))) c.before.before.passed2.given.1 p.pass.ensures.advances
+  ahead = subst (Advances (text (f p)) (from (f p)) (end (f p))) c.in-On.is p.pass-passed.ensures.advances
 
-  scans : Scans (text (f p)) (end (f p) + 1) ((l p).loop.lines + 1) ((l p).loop.series + c.whole.result) ((l p).loop.total + n) more
+  scans : Scans (text (f p)) (end (f p) + 1) ((l p).loop-from.lines + 1) ((l p).loop-from.series + c.whole-series.result) ((l p).loop-from.total + n) more
       (to_z w32 (of_z w32 year)) all
   scans =
       let y = year-fits in
-      let told = step_told p c.before.before.passed2.given.1 in
+      let told = step_told p c.in-On.is in
       simp to_z-of_z (subst
-      (λ (k : ℕ). Scans (text (f p)) (end (f p) + 1) ((l p).loop.lines + 1) ((l p).loop.series + k) ((l p).loop.total + n) more year all)
-      (sym c.whole.ensures) (scans-next (inv p) (line_end (f p)) (f p).before.loop-test.taken told ahead))
+      (λ (k : ℕ). Scans (text (f p)) (end (f p) + 1) ((l p).loop-from.lines + 1) ((l p).loop-from.series + k) ((l p).loop-from.total + n) more year all)
+      (sym c.whole-series.ensures) (scans-next (inv p) (line_end (f p)) (f p).loop-from-test.true told ahead))
 
-returns : tie.Need-returns invariant-loop decreases-loop
+returns : tie.Need-returns-in-Refused invariant-loop decreases-loop
 returns c =
-    let p = c.before.before.before.before in
-    let k = f p in
-    let h = scans_refused (inv p) (line_end k) k.before.loop-test.taken (step_told p c.before.before.passed.given.1) in
-    ap (Refused c.before.before.passed.given.0.0) c.place.ensures ∙ h
+    let p = c in
+    let k = f p.before.before in
+    let h = scans_refused (inv p.before.before) (line_end k) k.loop-from-test.true (step_told p.before.before c.in-Refused.is) in
+    ap (Refused c.in-Refused.code) c.place.ensures ∙ h
 
-pub scan-spec : {M : Type 1} → statement M
-scan-spec =
-    tie.close (tie.spec invariant-loop decreases-loop (λ c. scans-start c.before.args.text.now _)
-    (λ c κs. let i = c.before.loop.invariant in omega (arith, i.within)) (λ c κs. line_end c) (λ c. search rules) (λ c κs. search rules)
+pub scan_spec : {M : Type 1} → statement M
+scan_spec =
+    tie.close (tie.spec invariant-loop decreases-loop (λ c. scans-start c.args.text.now _)
+    (λ c κs. let i = c.loop-from.invariant in omega (arith, i.within)) (λ c κs. line_end c) (λ c. search rules) (λ c κs. search rules)
     returns (λ c. search rules) (λ c κs. search rules) (λ c. omega (arith, (scans c).few_series, (scans c).within, (s (f (p c))).good))
     (λ c. omega (arith, (scans c).few_widths, (scans c).within, (s (f (p c))).good)) (λ c. omega (arith, (scans c).within, (s (f (p c))).good))
     (λ c. omega (arith, (scans c).few_lines, (scans c).within, (s (f (p c))).good))
-    (λ c. let e = (f (p c)).before.loop-test.taken in omega (arith, (ahead c).longer, (ahead c).ended)) (λ c. scans c)
-    (λ c. scans_end c.before.loop.invariant c.loop-test.false))
+    (λ c. let e = (f (p c)).loop-from-test.true in omega (arith, (ahead c).longer, (ahead c).ended)) (λ c. scans c)
+    (λ c. scans_end c.loop-from.invariant c.loop-from-test.false))

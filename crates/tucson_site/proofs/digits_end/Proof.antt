@@ -23,39 +23,39 @@ high b h = rw (le-leb 48 b (omega arith), le-ltb b 58 (omega arith))
 digit : (b : ℕ) → 48 ≤ b → b ≤ 57 → picks b ≡ false
 digit b h k = rw (le-leb 48 b h, lt-ltb b 58 (omega arith))
 
-abbrev invariant-loop : tie.invariant-loop
+abbrev invariant-loop : tie.invariant-loop-i
 invariant-loop text from to i₀ i = (i ≤ to) × (from + digits_before (slice from to text) ≡ i + digits_before (slice i to text))
 
-abbrev decreases-loop : tie.decreases-loop
+abbrev decreases-loop : tie.decreases-loop-i
 decreases-loop text from to i₀ i = to - i
 
-returns : tie.Need-returns invariant-loop decreases-loop
+returns : tie.Need-returns-then-text-i-lt48 invariant-loop decreases-loop
 returns c =
-    let l = c.before.before.before.loop in
-    let s = c.before.before.before.before in
-    omega (arith, l.invariant.1, where_found picks s.args.text.now l.i s.args.to (omega arith) s.requires.within (low _ c.if1.true))
+    let l = c.loop-i in
+    let s = c in
+    omega (arith, l.invariant.1, where_found picks s.args.text.now l.i s.args.to (omega arith) s.requires.within (low _ c.if-text-i-lt48.true))
 
-returns-2 : tie.Need-returns-2 invariant-loop decreases-loop
+returns-2 : tie.Need-returns-then-text-i-gt57 invariant-loop decreases-loop
 returns-2 c =
-    let l = c.before.before.before.before.before.loop in
-    let s = c.before.before.before.before.before.before in
-    omega (arith, l.invariant.1, where_found picks s.args.text.now l.i s.args.to (omega arith) s.requires.within (high _ c.if2.true))
+    let l = c.loop-i in
+    let s = c in
+    omega (arith, l.invariant.1, where_found picks s.args.text.now l.i s.args.to (omega arith) s.requires.within (high _ c.if-text-i-gt57.true))
 
-loop-again : tie.Need-loop-preserved invariant-loop decreases-loop
+loop-again : tie.Need-loop-i-preserved invariant-loop decreases-loop
 loop-again c =
-    let l = c.before.before.before.before.before.loop in
-    let s = c.before.before.before.before.before.before in
-    omega (arith, l.invariant.1, where_next picks s.args.text.now l.i s.args.to (omega arith) s.requires.within (digit _ c.before.before.if1.false c.if2.false))
+    let l = c.loop-i in
+    let s = c in
+    omega (arith, l.invariant.1, where_next picks s.args.text.now l.i s.args.to (omega arith) s.requires.within (digit _ c.if-text-i-lt48.false c.if-text-i-gt57.false))
 
-returns-3 : tie.Need-returns-3 invariant-loop decreases-loop
+returns-3 : tie.Need-returns invariant-loop decreases-loop
 returns-3 c =
-    let l = c.before.loop in
-    let s = c.before.before in
+    let l = c.loop-i in
+    let s = c in
     let e : l.i ≡ s.args.to = omega arith in
     omega
     (arith, l.invariant.1, where_end picks s.args.text.now s.args.to, ap (λ (n : ℕ). digits_before (slice n s.args.to s.args.text.now)) e)
 
-pub digits-end-spec : {M : Type 1} → statement M
-digits-end-spec =
+pub digits_end_spec : {M : Type 1} → statement M
+digits_end_spec =
     tie.close (tie.spec invariant-loop decreases-loop (λ c. (c.requires.ordered, refl)) (λ c. omega arith) returns (λ c. omega arith) returns-2
     (λ c. omega arith) (λ c. omega arith) loop-again returns-3)

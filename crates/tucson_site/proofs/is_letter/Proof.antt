@@ -5,21 +5,21 @@ use native.Mathlib.Omega.{arith}
 use Rattle.tucson_site.proofs.is_letter.Statement.{statement}
 use Rattle.tucson_site.proofs.is_letter.Tie as tie
 
-returns : tie.Need-returns
-returns c = let b = c.before.args.byte in sym (rw (lt-leb 65 b c.if1.true, lt-leb 97 b (omega arith)))
+returns : tie.Need-returns-then-byte-lt65
+returns c = let b = c.args.byte in sym (rw (lt-leb 65 b c.if-byte-lt65.true, lt-leb 97 b (omega arith)))
 
-returns-2 : tie.Need-returns-2
-returns-2 c = let b = c.before.before.args.byte in sym (rw (le-leb 65 b c.before.if1.false, le-leb b 90 c.if2.true))
+returns-2 : tie.Need-returns-then-byte-le90
+returns-2 c = let b = c.args.byte in sym (rw (le-leb 65 b c.if-byte-lt65.false, le-leb b 90 c.if-byte-le90.true))
 
-returns-3 : tie.Need-returns-3
+returns-3 : tie.Need-returns-then-byte-lt97
 returns-3 c =
-    let b = c.before.before.before.args.byte in
-    sym (rw (le-leb 65 b c.before.before.if1.false, lt-leb b 90 c.before.if2.false, lt-leb 97 b c.if3.true))
+    let b = c.args.byte in
+    sym (rw (le-leb 65 b c.if-byte-lt65.false, lt-leb b 90 c.if-byte-le90.false, lt-leb 97 b c.if-byte-lt97.true))
 
-returns-4 : tie.Need-returns-4
+returns-4 : tie.Need-returns
 returns-4 c =
-    let b = c.before.before.before.args.byte in
-    sym (rw (le-leb 65 b c.before.before.if1.false, lt-leb b 90 c.before.if2.false, le-leb 97 b c.if3.false))
+    let b = c.args.byte in
+    sym (rw (le-leb 65 b c.if-byte-lt65.false, lt-leb b 90 c.if-byte-le90.false, le-leb 97 b c.if-byte-lt97.false))
 
-pub is-letter-spec : {M : Type 1} → statement M
-is-letter-spec = tie.close (tie.spec returns returns-2 returns-3 returns-4)
+pub is_letter_spec : {M : Type 1} → statement M
+is_letter_spec = tie.close (tie.spec returns returns-2 returns-3 returns-4)

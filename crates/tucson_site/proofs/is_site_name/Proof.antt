@@ -17,7 +17,7 @@ use Rattle.tucson_site.proofs.is_site_name.Statement.{statement}
 use Rattle.tucson_site.proofs.is_site_name.Tie as tie
 
 -- the letters are counted
-module _ (c : tie.After-letters-end) where
+module _ (c : tie.After-letters_end-number) where
   abbrev s : tie.Start
   s = c.before.before
 
@@ -34,79 +34,79 @@ module _ (c : tie.After-letters-end) where
   t = slice from to text
 
   abbrev number : ℕ
-  number = c.letters-end.result
+  number = c.letters_end-number.result
 
   abbrev u : Text
   u = slice number to text
 
   size : length t ≡ to - from
-  size = length-slice from to text s.pre.within
+  size = length-slice from to text s.requires.within
 
   number_is : number ≡ from + letters_before t
-  number_is = c.letters-end.ensures
+  number_is = c.letters_end-number.ensures
 
   number-within : number ≤ to
-  number-within = omega (arith, number_is, size, index-within (λ b. not (is_letter b)) t, s.pre.ordered)
+  number-within = omega (arith, number_is, size, index-within (λ b. not (is_letter b)) t, s.requires.ordered)
 
   rest : drop (letters_before t) t ≡ u
   rest = drop-slice (letters_before t) from to text ∙ ap (λ (n : ℕ). slice n to text) (sym number_is)
 
-returns : tie.Need-returns
-returns c = let k = c.before in sym (site_few (t k) (omega (arith, number_is k, c.if1.true)))
+returns : tie.Need-returns-then-number-from-lt-LETTERS
+returns c = let k = c in sym (site_few (t k.before) (omega (arith, number_is k.before, c.if-number-from-lt-LETTERS.true)))
 
-returns-2 : tie.Need-returns-2
-returns-2 c = let k = c.before.before in sym (site_many (t k) (omega (arith, number_is k, c.if2.true)))
+returns-2 : tie.Need-returns-then-number-from-gt-MOST_LETTERS
+returns-2 c = let k = c in sym (site_many (t k.before.before) (omega (arith, number_is k.before.before, c.if-number-from-gt-MOST_LETTERS.true)))
 
 -- and the digits
-module _ (c : tie.After-digits-end) where
-  abbrev k1 : tie.After-letters-end
+module _ (c : tie.After-digits_end-last) where
+  abbrev k1 : tie.After-letters_end-number
   k1 = c.before.before.before
 
   abbrev last : ℕ
-  last = c.digits_end.result
+  last = c.digits_end-last.result
 
   last_is : last ≡ number k1 + digits_before (u k1)
-  last_is = c.digits_end.ensures
+  last_is = c.digits_end-last.ensures
 
   u_size : length (u k1) ≡ to k1 - number k1
-  u_size = length-slice (number k1) (to k1) (text k1) (s k1).pre.within
+  u_size = length-slice (number k1) (to k1) (text k1) (s k1).requires.within
 
   last_within : last ≤ to k1
   last_within = omega (arith, last_is, u_size, index-within (λ b. not (is_digit b)) (u k1), number-within k1)
 
   enough : 2 ≤ letters_before (t k1)
-  enough = omega (arith, number_is k1, c.before.before.if1.false)
+  enough = omega (arith, number_is k1, c.if-number-from-lt-LETTERS.false)
 
   few : letters_before (t k1) ≤ 4
-  few = omega (arith, number_is k1, c.before.if2.false)
+  few = omega (arith, number_is k1, c.if-number-from-gt-MOST_LETTERS.false)
 
-returns-3 : tie.Need-returns-3
+returns-3 : tie.Need-returns-then-last-number-ne-DIGITS
 returns-3 c =
-    let d = c.before in
-    let k = k1 d in
-    sym (site-digits (t k) (u k) (rest k) (enough d) (few d) (λ e. c.if3.true (omega (arith, last_is d))))
+    let d = c in
+    let k = k1 d.before in
+    sym (site-digits (t k) (u k) (rest k) (enough d.before) (few d.before) (λ e. c.if-last-number-ne-DIGITS.true (omega (arith, last_is d.before))))
 
-returns-4 : tie.Need-returns-4
+returns-4 : tie.Need-returns-then-to-number
 returns-4 c =
-    let d = c.before.before in
-    let k = k1 d in
-    sym (site_long (t k) (u k) (rest k) (enough d) (few d) (omega (arith, last_is d, c.before.if3.false)) (omega (arith, u_size d, c.if4.true)))
+    let d = c in
+    let k = k1 d.before.before in
+    sym (site_long (t k) (u k) (rest k) (enough d.before.before) (few d.before.before) (omega (arith, last_is d.before.before, c.if-last-number-ne-DIGITS.false)) (omega (arith, u_size d.before.before, c.if-to-number.true)))
 
-returns-5 : tie.Need-returns-5
+returns-5 : tie.Need-returns
 returns-5 c =
-    let d = c.before.before.before in
-    let k = k1 d in
-    let v = slice (last d) (to k) (text k) in
-    let e : number k + 3 ≡ last d = omega (arith, c.before.before.if3.false, last_is d) in
+    let d = c in
+    let k = k1 d.before.before.before in
+    let v = slice (last d.before.before.before) (to k) (text k) in
+    let e : number k + 3 ≡ last d.before.before.before = omega (arith, c.if-last-number-ne-DIGITS.false, last_is d.before.before.before) in
     let left : drop 3 (u k) ≡ v = drop-slice 3 (number k) (to k) (text k) ∙ ap (λ (n : ℕ). slice n (to k) (text k)) e in
-    ap (λ (n : ℕ). eqb n (to k)) c.letters-end2.ensures ∙ same-moved (last d) (letters_before v) (to k) (last_within d)
-    ∙ sym (site-last (t k) (u k) (rest k) (enough d) (few d) (omega (arith, e, last_is d)) (omega (arith, u_size d, c.before.if4.false))
+    ap (λ (n : ℕ). eqb n (to k)) c.letters_end.ensures ∙ same-moved (last d.before.before.before) (letters_before v) (to k) (last_within d.before.before.before)
+    ∙ sym (site-last (t k) (u k) (rest k) (enough d.before.before.before) (few d.before.before.before) (omega (arith, e, last_is d.before.before.before)) (omega (arith, u_size d.before.before.before, c.if-to-number.false))
     ∙ ap (λ (x : Text). eqb (letters_before x) (length x)) left
-    ∙ ap (eqb (letters_before v)) (length-slice (last d) (to k) (text k) (s k).pre.within))
+    ∙ ap (eqb (letters_before v)) (length-slice (last d.before.before.before) (to k) (text k) (s k).requires.within))
 
-pub is-site-name-spec : {M : Type 1} → statement M
-is-site-name-spec =
+pub is_site_name_spec : {M : Type 1} → statement M
+is_site_name_spec =
     tie.close (tie.spec (λ c κs. search rules) (λ c. search rules) returns (λ c. search rules) returns-2
-    (λ c κs. let k = c.before.before in record { ordered = number-within k; within = (s k).requires.within }) (λ c. search rules) returns-3
+    (λ c κs. let k = c in record { ordered = number-within k.before.before; within = (s k.before.before).requires.within }) (λ c. search rules) returns-3
     (λ c. number-within (k1 c.before)) (λ c. search rules) returns-4
-    (λ c κs. let d = c.before.before in record { ordered = last_within d; within = (s (k1 d)).pre.within }) returns-5)
+    (λ c κs. let d = c in record { ordered = last_within d.before.before; within = (s (k1 d.before.before)).requires.within }) returns-5)

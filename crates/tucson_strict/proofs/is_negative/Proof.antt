@@ -7,7 +7,7 @@ use Rattle.base_exact.proofs.Decide.{clash}
 use Rattle.tucson_strict.proofs.is_negative.Statement.{statement}
 use Rattle.tucson_strict.proofs.is_negative.Tie as tie
 
-returns-4 : tie.Need-returns-4
+returns-4 : tie.Need-returns
 returns-4 c e = record {
   some = omega arith;
   few = omega arith;
@@ -15,8 +15,8 @@ returns-4 c e = record {
   digit = ltb-true 48 _ e;
 }
 
-pub is-negative-spec : {M : Type 1} → statement M
-is-negative-spec =
+pub is_negative_spec : {M : Type 1} → statement M
+is_negative_spec =
     tie.close
     (tie.spec
     (λ c. search rules)

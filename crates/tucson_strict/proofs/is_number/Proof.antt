@@ -8,27 +8,27 @@ use Rattle.tucson_strict.proofs.Numbers.{number_digits, number-minus}
 use Rattle.tucson_strict.proofs.is_number.Statement.{statement}
 use Rattle.tucson_strict.proofs.is_number.Tie as tie
 
-returns : tie.Need-returns
+returns : tie.Need-returns-then-to-from-le-MOST_DIGITS
 returns c =
-    let b = c.before in
-    let a = b.before in
-    let s = a.before.before.before in
-    c.all_digits.ensures ∙ sym (number_digits s.args.text.now s.args.from s.args.to s.requires.1 s.requires.0.within a.if1.true b.if2.true)
+    let b = c in
+    let a = b in
+    let s = a in
+    c.all_digits.ensures ∙ sym (number_digits s.args.text.now s.args.from s.args.to s.requires.1 s.requires.0.within a.if-text-from-gt48.true b.if-to-from-le-MOST_DIGITS.true)
 
-returns-2 : tie.Need-returns-2
+returns-2 : tie.Need-returns-then-is_negative
 returns-2 c =
-    let b = c.before.before in
-    let s = b.before.before.before.before in
-    c.all-digits2.ensures ∙ sym (number-minus s.args.text.now s.args.from s.args.to s.requires.0.within (b.is_negative.ensures c.before.if3.true))
+    let b = c in
+    let s = b in
+    c.all_digits-then-is_negative.ensures ∙ sym (number-minus s.args.text.now s.args.from s.args.to s.requires.0.within (b.is_negative.ensures c.if-is_negative.true))
 
-returns-3 : tie.Need-returns-3
-returns-3 c = sym (ap is_some (field-none _ (sym c.before.before.numeral.ensures ∙ c.enum_told.given.1)))
+returns-3 : tie.Need-returns-in-Bad
+returns-3 c = sym (ap is_some (field-none _ (sym c.numeral-field.ensures ∙ c.in-Bad.is)))
 
-returns-4 : tie.Need-returns-4
-returns-4 c = sym (ap is_some (field_some _ _ (sym c.before.before.numeral.ensures ∙ c.enum-told2.given.1)))
+returns-4 : tie.Need-returns-in-Numeral
+returns-4 c = sym (ap is_some (field_some _ _ (sym c.numeral-field.ensures ∙ c.in-Numeral.is)))
 
-pub is-number-spec : {M : Type 1} → statement M
-is-number-spec =
+pub is_number_spec : {M : Type 1} → statement M
+is_number_spec =
     tie.close
     (tie.spec
     (λ c. search rules)

@@ -18,11 +18,11 @@ returns : tie.Need-returns
 returns c =
     let s = c.before.before.last-field in
     let f : SFits w32 s.result.last = record { sfits = c.before.struct_told.given.1.0.1 } in
-    let g : SFits w32 c.Closing-after.result = record { sfits = c.Closing-after.type-inv } in
+    let g : SFits w32 c.closing_after.result = record { sfits = c.closing_after.type-inv } in
     let u = c.before.before.before.before.args.unit in
     let w = c.before.before.before.before.args.line.now in
     let whole : take (length w) w ≡ w = take_all (length w) w (omega arith) in
-    let e : c.Closing-after.result ≡ closing_after u s.result.last = simp to_z-of_z at c.Closing-after.ensures in
+    let e : c.closing_after.result ≡ closing_after u s.result.last = simp to_z-of_z at c.closing_after.ensures in
     record {
       count_is = refl;
       closing_is = simp to_z-of_z (e ∙ ap (closing_after u) s.ensures.last_is ∙ ap (λ (t : Text). closing_after u (last_field (fields_of t))) whole);

@@ -6,13 +6,13 @@ use Rattle.walzhik_reply.proofs.Replied.{answer-replied, refusal-replied}
 use Rattle.walzhik_reply.proofs.reply_of.Statement.{statement}
 use Rattle.walzhik_reply.proofs.reply_of.Tie as tie
 
-returns : tie.Need-returns
+returns : tie.Need-returns-in-Count
 unfolding reply
-returns c = answer-replied c.answered.result _ _ c.answered.ensures (sym (ap reply c.before.before.answer.given.1))
+returns c = answer-replied c.answered.result _ _ c.answered.ensures (sym (ap reply c.before.in-Count.is))
 
-returns-2 : tie.Need-returns-2
+returns-2 : tie.Need-returns-in-Refused
 unfolding reply
-returns-2 c = refusal-replied c.refused.result _ _ _ c.refused.ensures (sym (ap reply c.before.before.answer2.given.1))
+returns-2 c = refusal-replied c.refused.result _ _ _ c.refused.ensures (sym (ap reply c.before.in-Refused.is))
 
-pub reply-of-spec : {M : Type 1} → statement M
-reply-of-spec = tie.close (tie.spec (λ c. search rules) (λ c κs. search rules) (λ c. search rules) (λ c κs. search rules) returns returns-2)
+pub reply_of_spec : {M : Type 1} → statement M
+reply_of_spec = tie.close (tie.spec (λ c. search rules) (λ c κs. search rules) (λ c. search rules) (λ c κs. search rules) returns returns-2)

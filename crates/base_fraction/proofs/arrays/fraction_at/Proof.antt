@@ -12,9 +12,9 @@ use Rattle.base_fraction.proofs.arrays.fraction_at.Tie as tie
 returns : tie.Need-returns
 returns c of e =
     let s = c.before.before in
-    let n : SFits w64 (get_or s.args.num.now s.args.i (pos 0)) = record { sfits = c.before.n.given } in
-    let d : SFits w64 (get_or s.args.den.now s.args.i (pos 0)) = record { sfits = c.d.given } in
+    let n : SFits w64 (get_or s.args.num.now s.args.i (pos 0)) = record { sfits = c.before.n-1.given } in
+    let d : SFits w64 (get_or s.args.den.now s.args.i (pos 0)) = record { sfits = c.d-1.given } in
     simp to_z-of_z (fraction-at of _ e s.args.i s.requires)
 
-pub fraction-at-spec : {M : Type 1} → statement M
-fraction-at-spec = tie.close (tie.spec (λ c. search rules) (λ c. search rules) (λ c. search rules) (λ c. search rules) returns)
+pub fraction_at_spec : {M : Type 1} → statement M
+fraction_at_spec = tie.close (tie.spec (λ c. search rules) (λ c. search rules) (λ c. search rules) (λ c. search rules) returns)

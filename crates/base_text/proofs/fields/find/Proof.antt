@@ -8,26 +8,26 @@ use Rattle.base_text.proofs.Cutting.{index-found, index-next, index_end}
 use Rattle.base_text.proofs.fields.find.Statement.{statement}
 use Rattle.base_text.proofs.fields.find.Tie as tie
 
-abbrev invariant-loop : tie.invariant-loop
+abbrev invariant-loop : tie.invariant-loop-i
 invariant-loop text from to byte i₀ i = (i ≤ to) × (from + index_of byte (slice from to text) ≡ i + index_of byte (slice i to text))
 
-abbrev decreases-loop : tie.decreases-loop
+abbrev decreases-loop : tie.decreases-loop-i
 decreases-loop text from to byte i₀ i = to - i
 
-returns : tie.Need-returns invariant-loop decreases-loop
+returns : tie.Need-returns-then-text-i invariant-loop decreases-loop
 returns c =
     let s = c.before.before.before.before in
-    omega (arith, index-found s.args.byte s.args.text.now c.before.before.before.loop.i s.args.to c.before.before.loop-test.true s.requires.within c.if1.true)
+    omega (arith, index-found s.args.byte s.args.text.now c.before.before.before.loop-i.i s.args.to c.before.before.loop-i-test.true s.requires.within c.if-text-i.true)
 
-loop-again : tie.Need-loop-preserved invariant-loop decreases-loop
+loop-again : tie.Need-loop-i-preserved invariant-loop decreases-loop
 loop-again c =
     let s = c.before.before.before.before in
-    omega (arith, index-next s.args.byte s.args.text.now c.before.before.before.loop.i s.args.to c.before.before.loop-test.true s.requires.within c.if1.false)
+    omega (arith, index-next s.args.byte s.args.text.now c.before.before.before.loop-i.i s.args.to c.before.before.loop-i-test.true s.requires.within c.if-text-i.false)
 
-returns-2 : tie.Need-returns-2 invariant-loop decreases-loop
+returns-2 : tie.Need-returns invariant-loop decreases-loop
 returns-2 c =
     let s = c.before.before in
-    let e : c.before.loop.i ≡ s.args.to = omega arith in
+    let e : c.before.loop-i.i ≡ s.args.to = omega arith in
     omega (arith, index_end s.args.byte s.args.text.now s.args.to, ap (λ (n : ℕ). index_of s.args.byte (slice n s.args.to s.args.text.now)) e)
 
 pub find_spec : {M : Type 1} → statement M

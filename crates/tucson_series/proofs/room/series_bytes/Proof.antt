@@ -11,21 +11,21 @@ use Rattle.tucson_series.proofs.Years.{closing-parts}
 use Rattle.tucson_series.proofs.room.series_bytes.Statement.{statement}
 use Rattle.tucson_series.proofs.room.series_bytes.Tie as tie
 
-few : (c : tie.After-years-left) → c.before.args.count ≤ most_left
-few c = (closing-parts c.before.args.year c.before.args.count c.before.requires).few
+few : (c : tie.After-years_left-line_room) → c.args.count ≤ most_left
+few c = (closing-parts c.args.year c.args.count c.requires).few
 
-years-left-requires : tie.Need-years-left-requires
+years-left-requires : tie.Need-years_left-line_room-requires
 years-left-requires c κs = let f : SFits w32 c.args.year = c.ranges.year in simp to_z-of_z (closing-parts c.args.year c.args.count c.requires).dated
 
 returns : tie.Need-returns
 unfolding series_bytes
 returns c =
-    let s = c.before in
+    let s = c in
     let f : SFits w32 s.args.year = s.ranges.year in
-    let e : c.years-left.result ≡ years_left s.args.year = simp to_z-of_z at c.years-left.ensures in
+    let e : c.years_left-line_room.result ≡ years_left s.args.year = simp to_z-of_z at c.years_left-line_room.ensures in
     rw e
 
-pub series-bytes-spec : {M : Type 1} → statement M
-series-bytes-spec =
+pub series_bytes_spec : {M : Type 1} → statement M
+series_bytes_spec =
     tie.close (tie.spec years-left-requires (λ c. search rules) (λ c. search rules) (λ c. omega (arith, few c)) (λ c. omega (arith, few c))
     (λ c. omega (arith, few c)) (λ c. omega (arith, few c)) (λ c. omega (arith, few c)) (λ c. omega (arith, few c)) returns)

@@ -9,33 +9,33 @@ use Rattle.tucson_series.proofs.Years.{early_year, late_year, year-within}
 use Rattle.tucson_series.proofs.writable.years_fit.Statement.{statement}
 use Rattle.tucson_series.proofs.writable.years_fit.Tie as tie
 
-returns : tie.Need-returns
+returns : tie.Need-returns-then-year-lt-LEAST_YEAR
 unfolding closing_fits
 returns c =
-    let s = c.before in
+    let s = c in
     let f : SFits w32 s.args.year = s.ranges.year in
-    sym (simp (early_year s.args.year (simp to_z-of_z at c.if1.true)))
+    sym (simp (early_year s.args.year (simp to_z-of_z at c.if-year-lt-LEAST_YEAR.true)))
 
-returns-2 : tie.Need-returns-2
+returns-2 : tie.Need-returns-then-year-gt-GREATEST_YEAR
 unfolding closing_fits
 returns-2 c =
-    let s = c.before.before in
+    let s = c in
     let f : SFits w32 s.args.year = s.ranges.year in
-    sym (simp (late_year s.args.year (simp to_z-of_z at c.if2.true)))
+    sym (simp (late_year s.args.year (simp to_z-of_z at c.if-year-gt-GREATEST_YEAR.true)))
 
-years-left-requires : tie.Need-years-left-requires
+years-left-requires : tie.Need-years_left-requires
 years-left-requires c κs =
-    let s = c.before.before in
+    let s = c in
     let f : SFits w32 s.args.year = s.ranges.year in
-    simp to_z-of_z (year-within s.args.year (simp to_z-of_z at c.before.if1.false) (simp to_z-of_z at c.if2.false))
+    simp to_z-of_z (year-within s.args.year (simp to_z-of_z at c.if-year-lt-LEAST_YEAR.false) (simp to_z-of_z at c.if-year-gt-GREATEST_YEAR.false))
 
-returns-3 : tie.Need-returns-3
+returns-3 : tie.Need-returns
 unfolding closing_fits
 returns-3 c =
-    let s = c.before.before.before in
+    let s = c in
     let f : SFits w32 s.args.year = s.ranges.year in
-    let within = year-within s.args.year (simp to_z-of_z at c.before.before.if1.false) (simp to_z-of_z at c.before.if2.false) in
-    ap (leb s.args.count) (simp to_z-of_z at c.years-left.ensures) ∙ sym (simp within)
+    let within = year-within s.args.year (simp to_z-of_z at c.if-year-lt-LEAST_YEAR.false) (simp to_z-of_z at c.if-year-gt-GREATEST_YEAR.false) in
+    ap (leb s.args.count) (simp to_z-of_z at c.years_left.ensures) ∙ sym (simp within)
 
-pub years-fit-spec : {M : Type 1} → statement M
-years-fit-spec = tie.close (tie.spec returns returns-2 years-left-requires returns-3)
+pub years_fit_spec : {M : Type 1} → statement M
+years_fit_spec = tie.close (tie.spec returns returns-2 years-left-requires returns-3)

@@ -6,10 +6,10 @@ use Rattle.tucson_series.proofs.Years.{years_fit_word, years_natural}
 use Rattle.tucson_series.proofs.writable.years_left.Statement.{statement}
 use Rattle.tucson_series.proofs.writable.years_left.Tie as tie
 
-sub-result : tie.Need-overflow-sub-result
+sub-result : tie.Need-overflow_sub-result
 sub-result c = let f : SFits w32 c.args.year = c.ranges.year in simp to_z-of_z (years_fit_word c.args.year c.requires)
 
-cast-result : tie.Need-overflow-cast-result
+cast-result : tie.Need-overflow_cast-result
 cast-result c =
     let f : SFits w32 c.args.year = c.ranges.year in
     let g = years_fit_word c.args.year c.requires in
@@ -18,5 +18,5 @@ cast-result c =
 returns : tie.Need-returns
 returns c = let f : SFits w32 c.args.year = c.ranges.year in let g = years_fit_word c.args.year c.requires in simp to_z-of_z
 
-pub years-left-spec : {M : Type 1} → statement M
-years-left-spec = tie.close (tie.spec sub-result cast-result returns)
+pub years_left_spec : {M : Type 1} → statement M
+years_left_spec = tie.close (tie.spec sub-result cast-result returns)
