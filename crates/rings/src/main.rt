@@ -8,6 +8,8 @@ ghost use Rattle.rings_pieces.specs.Piece.{Held, width_cells};
 use base_outcome::limits;
 use curve_ordinates::Wood;
 use rings_read::Readiness;
+use std::io;
+use std::io::Print;
 
 // One byte more than the longest input, so that a longer one is seen to be too long.
 const INPUT_BYTES: usize = limits::TEXT_LIMIT + 1;
@@ -16,7 +18,8 @@ const INPUT_BYTES: usize = limits::TEXT_LIMIT + 1;
 const REFUSAL_BYTES: usize = 45;
 
 // Writes the pieces of all series in order, each when it has been worked out, until a write fails.
-fn write_pieces(
+fn write_pieces<P: Print>(
+    to: &P,
     input: &[u8],
     wood: Wood,
     breaks: &[i32],
@@ -28,7 +31,7 @@ fn write_pieces(
     years: &[i32],
     counts: &[u32],
     widths: &[i32],
-) -> bool
+) -> io::Result<()>
     requires held { Held input.now (wood_of wood) breaks.now degrees.now orders.now coefs.now n names.now years.now
         counts.now widths.now }
     requires widths_len_bound { length widths.now ≤ width_cells }
@@ -41,17 +44,16 @@ fn write_pieces(
             input, wood, breaks, degrees, orders, coefs, n, names, years, counts, widths, k, start,
             &mut out,
         );
-        if !io::write_all(1, &out[..size]) {
-            return false;
-        }
+        to.write_all(&out[..size])?;
         start += counts[k] as usize;
         k += 1;
     }
-    true
+    Ok(())
 }
 
 // The same for the buffers of judging, whose lengths are known.
-fn write_ready(
+fn write_ready<P: Print>(
+    to: &P,
     input: &[u8],
     wood: Wood,
     breaks: &[i32],
@@ -63,31 +65,31 @@ fn write_ready(
     years: &[i32; tucson_text::SERIES],
     counts: &[u32; tucson_text::SERIES],
     widths: &[i32; tucson_text::WIDTHS],
-) -> bool
+) -> io::Result<()>
     requires { Held input.now (wood_of wood) breaks.now degrees.now orders.now coefs.now n names.now years.now
         counts.now widths.now }
 {
     write_pieces(
-        input, wood, breaks, degrees, orders, coefs, n, names, years, counts, widths,
+        to, input, wood, breaks, degrees, orders, coefs, n, names, years, counts, widths,
     )
 }
 
 // Writes the first line of the table.
-fn write_header() -> bool {
+fn write_header<P: Print>(to: &P) -> io::Result<()> {
     let mut line = [0u8; rings_pieces::HEADER_BYTES];
     let count = rings_pieces::put_header(&mut line);
-    io::write_all(1, &line[..count])
+    to.write_all(&line[..count])
 }
 
 // Writes the line of a refusal.
-fn write_refusal(code: u8, place: u32) -> bool {
+fn write_refusal<P: Print>(to: &P, code: u8, place: u32) -> io::Result<()> {
     let mut line = [0u8; REFUSAL_BYTES];
     let count = base_print::refusal(code, place, &mut line);
-    io::write_all(1, &line[..count])
+    to.write_all(&line[..count])
 }
 
 // Writes the table of the input, or its refusal.
-fn write_table(input: &[u8]) -> bool {
+fn write_table<P: Print>(to: &P, input: &[u8]) -> io::Result<()> {
     let mut breaks = [0i32; sheet_lines::LIST_LIMIT];
     let mut degrees = [0i32; sheet_lines::LIST_LIMIT];
     let mut orders = [0i32; sheet_lines::LIST_LIMIT];
@@ -108,12 +110,11 @@ fn write_table(input: &[u8]) -> bool {
         &mut widths,
     );
     match judged {
-        Readiness::Refused(code, place) => write_refusal(code, place),
+        Readiness::Refused(code, place) => write_refusal(to, code, place),
         Readiness::Ready(wood, b, d, o, c, n) => {
-            if !write_header() {
-                return false;
-            }
+            write_header(to)?;
             write_ready(
+                to,
                 input,
                 wood,
                 &breaks[..b],
@@ -130,15 +131,15 @@ fn write_table(input: &[u8]) -> bool {
     }
 }
 
-fn main() {
+fn main(rt: HostRuntime) -> io::Result<()> {
     let mut input = [0u8; INPUT_BYTES];
-    let read = base_input::read_input(&mut input);
-    if read.failed {
-        os::fail(b"read");
-        return;
+    let read = base_input::read_input(&mut rt.stdin(), &mut input);
+    if let Some(error) = read.failed {
+        return eprintln!(rt; "read: {error}");
     }
     let n = read.count;
-    if !write_table(&input[..n]) {
-        os::fail(b"write");
+    match write_table(&rt, &input[..n]) {
+        Ok(()) => Ok(()),
+        Err(error) => eprintln!(rt; "write: {error}"),
     }
 }

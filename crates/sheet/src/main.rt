@@ -2,6 +2,8 @@
 #![tactic(auto)]
 
 use base_outcome::limits;
+use std::io;
+use std::io::Print;
 
 // One byte more than the longest sheet, so that a longer text is seen to be too long.
 const INPUT_BYTES: usize = limits::SHEET_LIMIT + 1;
@@ -10,21 +12,21 @@ const INPUT_BYTES: usize = limits::SHEET_LIMIT + 1;
 const OUTPUT_BYTES: usize = 2189079;
 
 // Writes the printout of a sheet.
-fn write_printout(input: &[u8]) -> bool {
+fn write_printout<P: Print>(to: &P, input: &[u8]) -> io::Result<()> {
     let mut out = [0u8; OUTPUT_BYTES];
     let count = sheet_text::sheet(input, &mut out);
-    io::write_all(1, &out[..count])
+    to.write_all(&out[..count])
 }
 
-fn main() {
+fn main(rt: HostRuntime) -> io::Result<()> {
     let mut input = [0u8; INPUT_BYTES];
-    let read = base_input::read_input(&mut input);
-    if read.failed {
-        os::fail(b"read");
-        return;
+    let read = base_input::read_input(&mut rt.stdin(), &mut input);
+    if let Some(error) = read.failed {
+        return eprintln!(rt; "read: {error}");
     }
     let n = read.count;
-    if !write_printout(&input[..n]) {
-        os::fail(b"write");
+    match write_printout(&rt, &input[..n]) {
+        Ok(()) => Ok(()),
+        Err(error) => eprintln!(rt; "write: {error}"),
     }
 }
