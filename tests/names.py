@@ -45,7 +45,7 @@ def words_of_the_tree() -> set[str]:
             if (
                 path != Path(__file__).resolve()
                 and path.is_file()
-                and (path.suffix in SOURCES or path.name in ("run", "configure"))
+                and (path.suffix in SOURCES or path.name in ("run", "build", "configure"))
             ):
                 text = path.read_text(encoding="utf-8", errors="replace")
                 words.update(re.findall(r"[^\W\d][\w'′₀-₉-]*", without_comments(text) if top == "crates" else text))

@@ -52,10 +52,10 @@ class Checkout:
         shutil.copy(ROOT / "walzhik", self.root)
         for name in [*PROGRAMS, "rings", *LIBRARIES]:
             (self.root / "crates" / name).mkdir(parents=True)
-        self.list("")
+        self.name_crates("")
         script(self.tools / "rt", KIT.format(notes=self.notes, root=ROOT, seconds=seconds))
 
-    def list(self, others: str) -> None:
+    def name_crates(self, others: str) -> None:
         """Write the table of crates: these lines, and the libraries."""
         static = "".join(f"{name} staticlib: above\n" for name in LIBRARIES)
         (self.root / "crates.txt").write_text(f"{others}{static}")
@@ -94,7 +94,7 @@ def test_the_first_run_sets_up_and_says_so(checkout: Checkout) -> None:
 
 def test_it_shows_how_far_it_is(checkout: Checkout) -> None:
     """Crates proved of how many, seconds left by the table; the kit's own lines are in the log alone."""
-    checkout.list("base:\nabove: base\nsheet: above\ntucson: base\nother: base\n")
+    checkout.name_crates("base:\nabove: base\nsheet: above\ntucson: base\nother: base\n")
     (checkout.root / ".ci/times").write_text("# seconds\nwhole 40\nbase 0\nabove 100\nsheet 100\n")
     _, _, err = checkout.run("explain", SHEET)
     assert (
@@ -108,7 +108,7 @@ def test_it_shows_how_far_it_is(checkout: Checkout) -> None:
 
 
 def test_a_program_of_the_table_of_crates_is_built_too(checkout: Checkout) -> None:
-    checkout.list("rings: sheet\n")
+    checkout.name_crates("rings: sheet\n")
     status, _, _ = checkout.run("explain", SHEET)
     assert status == 0 and checkout.asked() == [FIRST, *BUILDS[:2], "rings: run", *BUILDS[2:]]
 

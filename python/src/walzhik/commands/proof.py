@@ -46,7 +46,7 @@ def build(source: Path) -> None:
         raise Unusable("The Rattle kit is not here: rt, which proves and builds, is no command.")
     libraries = [header.stem for header in _build.headers(source / "include")]
     words = [".ci/build", *_proof.programs(source), *libraries]
-    if subprocess.run([source / words[0], *words[1:]], cwd=source, stdout=STANDARD_ERROR, check=False).returncode:
+    if subprocess.run([str(source / words[0]), *words[1:]], cwd=source, stdout=STANDARD_ERROR, check=False).returncode:
         raise Unusable(f"{' '.join(words)} failed in {source}.")
 
 
