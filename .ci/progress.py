@@ -1,8 +1,8 @@
-"""Shows how far the kit is: reads what `rt check NAME...` says from standard input and tells on standard error how many crates are
-proved, and about how many seconds are left by the times in the table .ci/times. With --table it makes that table from the logs in
-target/log, after all crates have been proved.
+"""Shows how far the kit is: reads what `.ci/build NAME...` says from standard input and tells on standard error how many crates are
+proved, and about how many seconds are left by the times in the table .ci/times. With --table it makes that table from the lines of
+the crates and of their proofs, since the kit gives no seconds: SECONDS are those of a first build of all.
 
-usage: progress.py check NAME... | progress.py staticlib NAME | progress.py --table SECONDS
+usage: progress.py show NAME... | progress.py --table SECONDS
 """
 
 from __future__ import annotations
@@ -17,7 +17,7 @@ ROOT = Path(__file__).resolve().parents[1]
 TABLE = ROOT / ".ci/times"
 WHOLE = "whole"  # the row of the table for one call of what the set-up needs, in seconds of a clock
 LEAST = 0.5  # seconds of a crate that takes none by the kit's clock
-PROVED = re.compile(r"^rt: (\w+) proved(?: \((\d+) s\))?", re.MULTILINE)
+PROVED = re.compile(r"^== (\w+)$")  # the kit's head of what it says of a crate, once that is checked
 STEPS = 10  # lines for a whole call, where they go to a file
 CALIBRATED = 0.1  # the share from which on this machine's own pace counts
 
@@ -26,7 +26,7 @@ def dependencies() -> dict[str, list[str]]:
     """What each crate of crates.txt names."""
     lines = (ROOT / "crates.txt").read_text(encoding="ascii").splitlines()
     rows = [line.partition(":") for line in lines if line and not line.startswith("#")]
-    return {name: rest.split() for name, _, rest in rows}
+    return {name.split()[0]: rest.split() for name, _, rest in rows}
 
 
 def needed(names: Iterable[str]) -> set[str]:
@@ -83,23 +83,26 @@ def show(names: Sequence[str]) -> None:
             print(words, file=sys.stderr, flush=True)
 
 
+def weight(crate: str) -> int:
+    """The lines that the kit reads of a crate."""
+    inside = (path for part in ("src", "specs", "proofs") for path in (ROOT / "crates" / crate / part).rglob("*.*t"))
+    return sum(len(path.read_text("utf-8").splitlines()) for path in inside if path.suffix in (".rt", ".antt"))
+
+
 def make_table(whole: str) -> None:
-    """Write the table from the logs of a tree whose crates have all been proved, by the set-up and by calls of the kit after it."""
-    logs = [ROOT / "target/lib/log", *(ROOT / "target/log" / f"{name}.out" for name in dependencies())]
-    said = PROVED.findall("\n".join(log.read_text("utf-8") for log in logs if log.exists()))
-    found = {crate: seconds for crate, seconds in said if seconds}
-    rows = [f"{name} {found[name]}\n" for name in dependencies() if name in found]
-    head = "# Seconds that the kit took for each crate, and for one call of what the set-up needs: made by .ci/progress.py --table SECONDS\n"
+    """Write the table: the seconds of a first build of all, shared out by the crates' lines."""
+    lines = {name: weight(name) for name in dependencies()}
+    share = float(whole) / sum(lines.values())
+    rows = [f"{name} {share * count:.1f}\n" for name, count in lines.items()]
+    head = "# Seconds by crate, and for one call of what the set-up needs, on the clock: made by .ci/progress.py --table SECONDS\n"
     TABLE.write_text(f"{head}{WHOLE} {float(whole):.0f}\n{''.join(rows)}", encoding="ascii")
 
 
 def main(arguments: Sequence[str]) -> None:
     if arguments[0] == "--table":
         make_table(arguments[1])
-    elif arguments[0] == "check":
-        show(arguments[1:])
     else:
-        sys.stdin.read()
+        show(arguments[1:])
 
 
 if __name__ == "__main__":

@@ -13,7 +13,7 @@ fn main() {
         println!("cargo:rerun-if-changed={}", archive.display());
         assert!(
             archive.exists(),
-            "no {library} in {}: build it with rt staticlib walzhik and rt staticlib walzhik_indices, or set WALZHIK_LIB",
+            "no {library} in {}: build it with .ci/build walzhik walzhik_indices, or set WALZHIK_LIB",
             folder.display()
         );
     }

@@ -64,7 +64,7 @@ def dependencies(root: Path) -> dict[str, list[str]]:
     """What each crate names, by crates.txt."""
     lines = (line.partition("#")[0] for line in (root / "crates.txt").read_text().splitlines())
     named = (line.partition(":") for line in lines if line.strip())
-    return {name.strip(): names.split() for name, _, names in named}
+    return {name.split()[0]: names.split() for name, _, names in named}
 
 
 def reached(listed: dict[str, list[str]], crates: Iterable[str]) -> list[str]:

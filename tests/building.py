@@ -62,7 +62,7 @@ class Built:
 def built_once(own: Path) -> Built:
     """The folder of all that is built, one for all processes of a run whose own folder is this, with the archives in target/."""
     made = Built((own.parent if "PYTEST_XDIST_WORKER" in os.environ else own) / "built")
-    made.once("archives", lambda _: [ended(["rt", "staticlib", name]) for name in ("walzhik", "walzhik_indices")])
+    made.once("archives", lambda _: ended([".ci/build", "walzhik", "walzhik_indices"]))
     return made
 
 
@@ -78,5 +78,5 @@ def archives_at_rest(own: Path) -> Iterator[None]:
 
 def proved_programs(made: Built) -> Path:
     """The folder of the proved programs, which are built first."""
-    made.once("programs", lambda _: ended(["rt", "check", "sheet", "tucson", "rings"]))
+    made.once("programs", lambda _: ended([".ci/build", "sheet", "tucson", "rings"]))
     return ROOT / "target/bin"

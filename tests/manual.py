@@ -51,7 +51,7 @@ DAY = ((["clean", LABORATORY], "tucson/oak.rwl", "day/clean.txt"),
        (["curve", "examples/sheets/step_4.sheet", "--every", "30"], "day/step_4.csv", None),
        (["clean", "examples/refusals/refused_12.rwl"], None, "day/gap.txt"))
 TOLD = (b"Rings are read as years", f"{OAK}: Line 22: a series ends here in another unit".encode())
-COMMANDS = ("target/bin/sheet", "target/bin/tucson", "./walzhik ", "rt check sheet", "rt check tucson", "rt check rings", "seq -s,")
+COMMANDS = ("target/bin/sheet", "target/bin/tucson", "./walzhik ", ".ci/build sheet", ".ci/build tucson", ".ci/build rings", "seq -s,")
 faults = []
 
 

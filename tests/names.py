@@ -29,22 +29,27 @@ def pages() -> list[Path]:
 
 def crate_names() -> set[str]:
     lines = (ROOT / "crates.txt").read_text(encoding="utf-8").splitlines()
-    return {line.partition(":")[0] for line in lines if line and not line.startswith("#")}
+    return {line.partition(":")[0].split()[0] for line in lines if line and not line.startswith("#")}
+
+
+def sources_of(top: Path) -> list[Path]:
+    """The files below a folder, without what the kit makes in out/."""
+    return [path for path in top.rglob("*") if "out" not in path.relative_to(CRATES.parent).parts[:3]]
 
 
 def words_of_the_tree() -> set[str]:
     """All words of all sources, hyphens within words included; of the crates' sources what is no comment."""
     words: set[str] = set()
     for top in ("crates", "tests", "python", "docs/src", "include", "examples", "rust", "r", ".ci"):
-        for path in (ROOT / top).rglob("*"):
+        for path in sources_of(ROOT / top):
             if (
                 path != Path(__file__).resolve()
                 and path.is_file()
-                and (path.suffix in SOURCES or path.name in ("run", "configure"))
+                and (path.suffix in SOURCES or path.name in ("run", "build", "configure"))
             ):
                 text = path.read_text(encoding="utf-8", errors="replace")
                 words.update(re.findall(r"[^\W\d][\w'′₀-₉-]*", without_comments(text) if top == "crates" else text))
-    for path in CRATES.rglob("*"):
+    for path in sources_of(CRATES):
         if path.suffix in (".edit", ".antt", ".rt"):
             words.update((path.stem, path.parent.name))
     words.update(
@@ -64,7 +69,7 @@ def comments_of(text: str) -> str:
 def defined(crate: str, name: str) -> bool:
     """Whether a crate's proofs or specs define the name."""
     start = re.compile(rf"^ *(?:(?:abbrev|unfoldable) )?pub (?:record |data )?{re.escape(name)}(?= )", re.MULTILINE)
-    return any(start.search(path.read_text(encoding="utf-8")) for path in (CRATES / crate).rglob("*.antt"))
+    return any(start.search(path.read_text(encoding="utf-8")) for path in sources_of(CRATES / crate) if path.suffix == ".antt")
 
 
 def module_faults(crate: str, files: list[str], crates: set[str]) -> list[str]:
@@ -226,7 +231,7 @@ def main() -> int:
     crates, words = crate_names(), words_of_the_tree()
     if sys.argv[1:] == ["--self-test"]:
         return self_test(crates, words)
-    sources = sorted(path for path in CRATES.rglob("*") if path.suffix in (".antt", ".rt"))
+    sources = sorted(path for path in sources_of(CRATES) if path.suffix in (".antt", ".rt"))
     faults = []
     for path in [*pages(), *sources]:
         text = path.read_text(encoding="utf-8")

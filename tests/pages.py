@@ -95,7 +95,7 @@ def run_commands(page, commands):
         (Path(folder) / ".R").mkdir()
         environment = {**os.environ, "R_LIBS": f"{folder}/.R", "MPLBACKEND": "Agg"}
         for command, shown in commands:
-            here = ROOT if command.startswith("rt ") else folder
+            here = ROOT if command.startswith(".ci/") else folder
             said = subprocess.run(["bash", "-c", command], cwd=here, env=environment, stdin=subprocess.DEVNULL,
                                   stdout=subprocess.PIPE, stderr=subprocess.STDOUT, timeout=SECONDS, check=False)
             printed = said.stdout.decode("utf-8", "replace").splitlines()

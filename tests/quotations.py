@@ -170,7 +170,7 @@ def main() -> int:
         fault for section, text in sections(page).items() for fault in definition_faults(section, text, crates)
     ] + unnamed(page, crates)
     count = 0
-    for path in sorted(path for path in CRATES.rglob("*") if path.suffix in (".antt", ".rt")):
+    for path in sorted(path for part in ("src", "specs", "proofs") for path in CRATES.glob(f"*/{part}/**/*") if path.suffix in (".antt", ".rt")):
         for line, comment in comments(path.read_text(encoding="utf-8")):
             count += len(re.findall(r'"[^"]*"', comment))
             found = quotation_faults(comment, texts) + paragraph_faults(comment, page)

@@ -32,7 +32,7 @@ quietly() {
 # Without archives there is one line that says what to do.
 without_archives() {
     (cd r && WALZHIK_LIB=$build ./configure >"$build/said" 2>&1) && { echo 'configure: no archives, but no error'; return 1; }
-    [ "$(wc -l <"$build/said")" -eq 1 ] && grep -q 'rt staticlib walzhik;' "$build/said" && return 0
+    [ "$(wc -l <"$build/said")" -eq 1 ] && grep -q '.ci/build walzhik;' "$build/said" && return 0
     echo 'configure does not say what to do in one line:'
     cat "$build/said"
     return 1

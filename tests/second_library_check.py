@@ -62,7 +62,7 @@ def said_of(wrong: Wrong | None) -> list[str]:
         root = Path(folder)
         shutil.copy(ROOT / "crates.txt", root)
         for crate in ALLOWED:
-            shutil.copytree(ROOT / "crates" / crate, root / "crates" / crate)
+            shutil.copytree(ROOT / "crates" / crate, root / "crates" / crate, ignore=shutil.ignore_patterns("out"))
         if wrong is not None:
             path = root / wrong.file
             before, mark, behind = path.read_text().partition(wrong.after)

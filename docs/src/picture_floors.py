@@ -48,7 +48,7 @@ def floors() -> list[Floor]:
             name, _, holds = line[2:].partition(": ")
             found.append(Floor(name, holds, []))
         elif line:
-            found[-1].crates.append(line.partition(":")[0])
+            found[-1].crates.append(line.partition(":")[0].split()[0])
     return found
 
 

@@ -19,16 +19,18 @@ from walzhik import __version__
 
 SHEET = "examples/sheets/w1.sheet"
 LIBRARIES = sorted(path.stem for path in (ROOT / "include").glob("*.h"))
-CHECK = " ".join(["check sheet tucson", *LIBRARIES])  # one call for all that is needed
+PROGRAMS = ["sheet", "tucson"]
+FIRST = "checkout: all check --jobs 4"  # one call for all proofs
+BUILDS = [*(f"{name}: run" for name in PROGRAMS), *(f"{name}: lib" for name in LIBRARIES)]
 KIT = """#!/usr/bin/env bash
-echo "$*" >> "{notes}"
-sleep {seconds}
+name=${{PWD##*/}}
+echo "$name: $*" >> "{notes}"
 case $1 in
-check)
-    mkdir -p target/bin
-    for name in $(sed 's/:.*//' crates.txt); do echo "rt: $name proved (1 s)"; done
-    for name in "{root}"/target/bin/*; do cp "$name" target/bin/; done ;;
-staticlib) mkdir -p target/staticlib && cp "{root}/target/staticlib/lib$2.a" target/staticlib/ ;;
+all)
+    sleep {seconds}
+    for name in $(sed -n 's/[ :].*//p' crates.txt); do printf '== %s\\nproved\\n' "$name"; done ;;
+run) mkdir -p out/incremental && cp "{root}/target/bin/$name" out/ ;;
+lib) mkdir -p out/incremental && cp "{root}/target/staticlib/lib$name.a" out/ ;;
 esac
 """
 
@@ -48,9 +50,15 @@ class Checkout:
         for name in ("include", "python/src", "examples/sheets", ".ci"):
             shutil.copytree(ROOT / name, self.root / name, ignore=shutil.ignore_patterns("__pycache__"))
         shutil.copy(ROOT / "walzhik", self.root)
-        (self.root / "crates").mkdir()
-        (self.root / "crates.txt").touch()
+        for name in [*PROGRAMS, "rings", *LIBRARIES]:
+            (self.root / "crates" / name).mkdir(parents=True)
+        self.name_crates("")
         script(self.tools / "rt", KIT.format(notes=self.notes, root=ROOT, seconds=seconds))
+
+    def name_crates(self, others: str) -> None:
+        """Write the table of crates: these lines, and the libraries."""
+        static = "".join(f"{name} staticlib: above\n" for name in LIBRARIES)
+        (self.root / "crates.txt").write_text(f"{others}{static}")
 
     def environment(self) -> dict[str, str]:
         left_out = ("WALZHIK_ROOT", "PYTHONPATH", "RT_JOBS")
@@ -79,39 +87,37 @@ def checkout(tmp_path: Path) -> Checkout:
 def test_the_first_run_sets_up_and_says_so(checkout: Checkout) -> None:
     status, out, err = checkout.run("explain", SHEET)
     assert status == 0 and out.startswith("Accepted: ")
-    assert checkout.asked() == [CHECK, *(f"staticlib {name}" for name in LIBRARIES)]
+    assert checkout.asked() == [FIRST, *BUILDS]
     assert "proving and building the programs and the libraries" in err and "linking the shared object" in err
-    assert checkout.run("explain", SHEET) == (0, out, "") and len(checkout.asked()) == 1 + len(LIBRARIES)
+    assert checkout.run("explain", SHEET) == (0, out, "") and len(checkout.asked()) == 1 + len(BUILDS)
 
 
 def test_it_shows_how_far_it_is(checkout: Checkout) -> None:
     """Crates proved of how many, seconds left by the table; the kit's own lines are in the log alone."""
-    (checkout.root / "crates.txt").write_text("base:\nabove: base\nsheet: above\ntucson: base\nother: base\n")
+    checkout.name_crates("base:\nabove: base\nsheet: above\ntucson: base\nother: base\n")
     (checkout.root / ".ci/times").write_text("# seconds\nwhole 40\nbase 0\nabove 100\nsheet 100\n")
     _, _, err = checkout.run("explain", SHEET)
     assert (
-        "walzhik: 1 of 4 crates proved, about 40 s left\n" in err and "walzhik: 4 of 4 crates proved, about 0 s" in err
+        "walzhik: 1 of 6 crates proved, about 40 s left\n" in err and "walzhik: 6 of 6 crates proved, about 0 s" in err
     )
-    assert "rt: " not in err and "rt: above proved (1 s)\n" in (checkout.root / "target/lib/log").read_text()
+    assert "== " not in err and "== above\n" in (checkout.root / "target/lib/log").read_text()
     shutil.rmtree(checkout.root / "target")
+    shutil.rmtree(checkout.root / "crates/sheet/out")
     (checkout.root / ".ci/times").unlink()
-    assert "walzhik: 4 of 4 crates proved\n" in checkout.run("explain", SHEET)[2]
+    assert "walzhik: 6 of 6 crates proved\n" in checkout.run("explain", SHEET)[2]
 
 
 def test_a_program_of_the_table_of_crates_is_built_too(checkout: Checkout) -> None:
-    (checkout.root / "crates.txt").write_text("rings: sheet\n")
-    script(checkout.tools / "rt", f'#!/bin/sh\necho "$RT_JOBS $*" >>"{checkout.notes}"\n')
-    status, _, err = checkout.run("explain", SHEET)
-    assert status == 2 and checkout.asked()[0] == "4 " + CHECK.replace("tucson", "tucson rings")
-    assert "is not there. Remove" in err
+    checkout.name_crates("rings: sheet\n")
+    status, _, _ = checkout.run("explain", SHEET)
+    assert status == 0 and checkout.asked() == [FIRST, *BUILDS[:2], "rings: run", *BUILDS[2:]]
 
 
 def test_how_many_crates_at_a_time_can_be_said(checkout: Checkout, monkeypatch: pytest.MonkeyPatch) -> None:
-    script(checkout.tools / "rt", f'#!/bin/sh\necho "$RT_JOBS $*" >>"{checkout.notes}"\n')
     environment = checkout.environment() | {"RT_JOBS": "1"}
     monkeypatch.setattr(checkout, "environment", lambda: environment)
     checkout.run("explain", SHEET)
-    assert checkout.asked()[0] == "1 " + CHECK
+    assert checkout.asked()[0] == FIRST.replace("4", "1")
 
 
 def test_a_newer_archive_is_linked_again(checkout: Checkout) -> None:
@@ -131,8 +137,8 @@ def test_a_newer_source_is_proved_again_once(checkout: Checkout) -> None:
         checkout.root / "target/lib/built",
     ]:
         os.utime(path, (2, 2))
-    assert "proving" in checkout.run("explain", SHEET)[2] and len(checkout.asked()) == 2 * before
-    assert "proving" not in checkout.run("explain", SHEET)[2] and len(checkout.asked()) == 2 * before
+    assert "proving" in checkout.run("explain", SHEET)[2] and checkout.asked()[before:] == BUILDS
+    assert "proving" not in checkout.run("explain", SHEET)[2] and checkout.asked()[before:] == BUILDS
 
 
 def test_two_at_once_set_up_once(tmp_path: Path) -> None:
@@ -140,7 +146,7 @@ def test_two_at_once_set_up_once(tmp_path: Path) -> None:
     started = [checkout.start("explain", SHEET) for _ in range(3)]
     ended = [(process.communicate()[0], process.returncode) for process in started]
     assert len({out for out, _ in ended}) == 1 and {status for _, status in ended} == {0}
-    assert checkout.asked().count(CHECK) == 1
+    assert checkout.asked().count(FIRST) == 1
     left = sorted(path.name for path in (checkout.root / "target/lib").glob("[!_]*"))
     assert left == ["built", "libwalzhik.so", "lock", "log"]
 
@@ -159,10 +165,10 @@ def test_it_runs_from_any_folder_and_through_a_link(checkout: Checkout, tmp_path
 def test_without_the_kit_it_says_what_to_do(checkout: Checkout) -> None:
     script(checkout.tools / "rt", "#!/bin/sh\necho 'curve is not proved'\nexit 1\n")
     status, out, err = checkout.run("explain", SHEET)
-    assert (status, out) == (2, "") and "curve is not proved" in err and f"rt {CHECK} failed" in err
-    script(checkout.tools / "rt", "#!/bin/sh\necho 'rt: sheet proved'\n")
+    assert (status, out) == (2, "") and "curve is not proved" in err and ".ci/build sheet tucson walzhik" in err
+    script(checkout.tools / "rt", "#!/bin/sh\necho '== sheet'\n")
     status, out, err = checkout.run("explain", SHEET)
-    assert (status, out) == (2, "") and "is not there. Remove" in err
+    assert (status, out) == (2, "") and "failed. All that it said is in" in err
     launcher = (checkout.root / "walzhik").read_text().replace("command -v rt", "command -v no-such-kit")
     (checkout.root / "walzhik").write_text(launcher)
     status, out, err = checkout.run("explain", SHEET)

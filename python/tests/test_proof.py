@@ -24,8 +24,11 @@ def tree(tmp_path: Path) -> Path:
     root = tmp_path / "tree"
     for name in ("include", "target/staticlib", "target/bin"):
         shutil.copytree(ROOT / name, root / name, copy_function=shutil.copyfile)
-    (root / "crates").mkdir()
-    (root / "crates.txt").write_text("sheet: io\ntucson: io\n")
+    shutil.copytree(ROOT / ".ci", root / ".ci")
+    for name in ("sheet", "tucson", "walzhik", "walzhik_indices"):
+        (root / "crates" / name).mkdir(parents=True)
+    static = "walzhik staticlib: base\nwalzhik_indices staticlib: base\n"
+    (root / "crates.txt").write_text(f"sheet: base\ntucson: base\n{static}")
     for path in (root / "crates", *root.glob("crates*"), *(root / "include").glob("*"), root / "include"):
         os.utime(path, (1, 1))
     return root
@@ -96,11 +99,15 @@ def test_installed_files_are_compared(run: Run, installed: Path) -> None:
 def test_a_tree_is_built_again(
     run: Run, installed: Path, tree: Path, tmp_path: Path, monkeypatch: pytest.MonkeyPatch
 ) -> None:
-    kit(tmp_path / "tools", monkeypatch, f'echo "$*" >>"{tmp_path}/notes"')
+    builds = f"""echo "${{PWD##*/}}: $*" >>"{tmp_path}/notes"
+[ $1 = all ] || mkdir -p out
+[ $1 != run ] || cp "{tree}/target/bin/${{PWD##*/}}" out/
+[ $1 != lib ] || cp "{tree}/target/staticlib/lib${{PWD##*/}}.a" out/"""
+    kit(tmp_path / "tools", monkeypatch, builds)
     ended = run("proof", "--rebuild", str(tree))
     assert ended.status == 0 and ended.out.count("the same, bit for bit") == 2
     asked = (tmp_path / "notes").read_text().splitlines()
-    assert "check sheet tucson walzhik walzhik_indices" in asked and "staticlib walzhik_indices" in asked
+    assert asked == ["tree: all check --jobs 4", "sheet: run", "tucson: run", "walzhik: lib", "walzhik_indices: lib"]
     with open(tree / "target/bin/sheet", "ab") as program:
         program.write(b"!")
     ended = run("proof", "--rebuild", str(tree))
@@ -113,7 +120,7 @@ def test_what_is_not_proved_again_is_told(
 ) -> None:
     kit(tmp_path / "tools", monkeypatch, "exit 1")
     ended = run("proof", "--rebuild", str(tree))
-    assert ended.status == 2 and "rt check sheet tucson walzhik walzhik_indices failed" in ended.err
+    assert ended.status == 2 and ".ci/build sheet tucson walzhik walzhik_indices failed" in ended.err
 
 
 def test_a_checkout_says_that_nothing_is_installed(run: Run) -> None:

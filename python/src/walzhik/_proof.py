@@ -148,8 +148,10 @@ def proved(root: Path) -> list[str]:
 
 
 def _newest(root: Path) -> Path:
-    """The newest source of a tree. Folders do not count: in a copy they are as old as the copy."""
-    inside = (path for name in SOURCES for path in (root / name, *(root / name).rglob("*")) if path.is_file())
+    """The newest source of a tree. Folders do not count: in a copy they are as old as the copy. Nor does what the kit makes in out/."""
+    within = [root / name for name in SOURCES if name != "crates"]
+    within += [path for path in (root / "crates").glob("*/*") if path.name != "out"]
+    inside = (path for part in within for path in (part, *part.rglob("*")) if path.is_file())
     return max(inside, key=lambda path: path.stat().st_mtime_ns)
 
 

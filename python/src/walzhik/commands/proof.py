@@ -2,7 +2,6 @@
 
 from __future__ import annotations
 
-import os
 import shutil
 import subprocess
 import tempfile
@@ -17,7 +16,6 @@ from ..failures import REFUSED, Unusable
 
 DONE = 0
 STANDARD_ERROR = 2
-AT_ONCE = {"RT_JOBS": "4"}  # crates that rt proves at a time, unless the environment says otherwise
 
 
 def records() -> list[tuple[Path, _proof.Record]]:
@@ -47,11 +45,9 @@ def build(source: Path) -> None:
     if shutil.which("rt") is None:
         raise Unusable("The Rattle kit is not here: rt, which proves and builds, is no command.")
     libraries = [header.stem for header in _build.headers(source / "include")]
-    for words in (["check", *_proof.programs(source), *libraries], *(["staticlib", name] for name in libraries)):
-        if subprocess.run(
-            ["rt", *words], cwd=source, stdout=STANDARD_ERROR, env=AT_ONCE | dict(os.environ), check=False
-        ).returncode:
-            raise Unusable(f"rt {' '.join(words)} failed in {source}.")
+    words = [".ci/build", *_proof.programs(source), *libraries]
+    if subprocess.run([str(source / words[0]), *words[1:]], cwd=source, stdout=STANDARD_ERROR, check=False).returncode:
+        raise Unusable(f"{' '.join(words)} failed in {source}.")
 
 
 def rebuilt_differences(found: _proof.Record, source: Path) -> Iterator[str]:
