@@ -22,12 +22,12 @@ module _ (t : Table) (rows column n columns : ℕ) (proper : Proper t rows colum
   units = take n (drop column (identity columns))
 
   size : length (t ++ units) ≡ rows + n
-  size = length-append t units ∙ omega (arith, proper.shaped.row_count, units_length t column n columns wide)
+  size = length-append t units ∙ omega (arith, proper.shaped.row_count_lem, units_length t column n columns wide)
 
   row_wide : (i : ℕ) → i < rows + n → Dec (i < rows) → length (row (t ++ units) i) ≡ columns
-  row_wide i h (yes l) = ap length (get_or-append t units [] i (omega (arith, proper.shaped.row_count))) ∙ proper.shaped.wide i l
+  row_wide i h (yes l) = ap length (get_or-append t units [] i (omega (arith, proper.shaped.row_count_lem))) ∙ proper.shaped.wide i l
   row_wide i h (no l) =
-      ap (λ k. length (row (t ++ units) k)) (let z : i ≡ length t + (i - rows) = omega (arith, proper.shaped.row_count) in z)
+      ap (λ k. length (row (t ++ units) k)) (let z : i ≡ length t + (i - rows) = omega (arith, proper.shaped.row_count_lem) in z)
       ∙ ap length (get_or-append-add t units (i - rows) [])
       ∙ ap length (unit_row t column n columns wide (i - rows) (omega arith))
       ∙ identity_wide columns (column + (i - rows)) (omega arith)

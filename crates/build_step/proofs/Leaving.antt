@@ -68,8 +68,8 @@ module _ (j : ℕ) (t : Table) (ws : List ℚ) (g : Span) where
           let fit = renewed_fits g.f t rs g.l holds.fit (new_rows_fit j g ws t z) in
           let made = holds-left num den (with_new rs) holds.num_long holds.den_long left.1 left.2 fit in
           let shape = renewed_shaped j g ws t z g.l shaped order (omega arith) (omega arith) in
-          let d = dropped (with_new rs) made (shape.row_count ∙ omega arith) in
-          let whole = renewed_without g.f t rs g.l order (omega (arith, shaped.row_count)) (new_rows_length j g ws t z) in (
+          let d = dropped (with_new rs) made (shape.row_count_lem ∙ omega arith) in
+          let whole = renewed_without g.f t rs g.l order (omega (arith, shaped.row_count_lem)) (new_rows_length j g ws t z) in (
             refl,
             d.0 ∙ ap (numerators _) left.1 ∙ numerators-again _ (with_new rs) num ∙ ap (λ s. numerators s num) whole,
             d.1 ∙ ap (denominators _) left.2 ∙ denominators-again _ (with_new rs) den ∙ ap (λ s. denominators s den) whole,

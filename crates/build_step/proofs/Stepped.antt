@@ -73,14 +73,14 @@ module _ (j : ℕ) (g : Span) (ws : Row) (t : Table) {rs : Table} (e : new_rows 
   -- with the rows up to i new, every row is as wide as before and there are as many rows but for those between
   pub renewed_shaped : {rows columns : ℕ} (i : ℕ) → Shaped t rows columns → g.f ≤ g.l → g.l ≤ i → i ≤ rows → Shaped (renewed g.f t rs i) (rows - (i - g.l)) columns
   renewed_shaped {rows} {columns} i shaped h k m = record {
-    row_count = spliced_length t rs g.f i (omega (arith, shaped.row_count)) ∙ omega (arith, new_rows_length, shaped.row_count);
+    row_count_lem = spliced_length t rs g.f i (omega (arith, shaped.row_count_lem)) ∙ omega (arith, new_rows_length, shaped.row_count_lem);
     wide = λ n l. place n l (dec_lt n g.f) (dec_lt n g.l);
     rows_fit = omega (arith, shaped.rows_fit);
     columns-fit = shaped.columns-fit;
   }
     where
       within : g.f ≤ length t
-      within = omega (arith, shaped.row_count)
+      within = omega (arith, shaped.row_count_lem)
 
       place : (n : ℕ) → n < rows - (i - g.l) → Dec (n < g.f) → Dec (n < g.l) → length (row (renewed g.f t rs i) n) ≡ columns
       place n l (yes a) b = ap length (spliced-before t rs g.f i within n [] a) ∙ shaped.wide n (omega arith)
@@ -96,7 +96,7 @@ module _ (j : ℕ) (g : Span) (ws : Row) (t : Table) {rs : Table} (e : new_rows 
 -- ---- the identity's shape
 
 pub identity_shaped : (n : ℕ) → n ≤ row_cells → Shaped (identity n) n n
-identity_shaped n h = record { row_count = identity-rows n; wide = λ i l. identity_wide n i l; rows_fit = h; columns-fit = h }
+identity_shaped n h = record { row_count_lem = identity-rows n; wide = λ i l. identity_wide n i l; rows_fit = h; columns-fit = h }
 
 -- ---- a step's table: one row less, as wide as before, and it fits
 
@@ -108,7 +108,7 @@ pub record Proper (t : Table) (rows columns : ℕ) : Type 0 where
 pub step_one_less : (j : ℕ) (κ : List Entry) (t : Table) {next : Table} {rows columns : ℕ} → step j κ t ≡ answer next → Proper t rows columns → Proper next (rows - 1) columns
 step_one_less j κ t {next} {rows} {columns} e proper = record {
   shaped = record {
-    row_count = left.rows;
+    row_count_lem = left.rows;
     wide = λ i h. left.wide.each i (omega (arith, left.rows));
     rows_fit = omega (arith, proper.shaped.rows_fit);
     columns-fit = proper.shaped.columns-fit;
@@ -117,7 +117,7 @@ step_one_less j κ t {next} {rows} {columns} e proper = record {
 }
   where
     left : Shape.Shaped columns (rows - 1) next
-    left = Shape.step_shaped columns rows j κ t (record { wide = record { each = λ i h. proper.shaped.wide i (omega (arith, proper.shaped.row_count)) }; rows = proper.shaped.row_count }) e
+    left = Shape.step_shaped columns rows j κ t (record { wide = record { each = λ i h. proper.shaped.wide i (omega (arith, proper.shaped.row_count_lem)) }; rows = proper.shaped.row_count_lem }) e
 
 -- the orders below n at a join: n rows less
 pub orders_less : (s : Space) (j n : ℕ) (t : Table) {next : Table} {rows columns : ℕ} → order_steps s j n t ≡ answer next → Proper t rows columns → Proper next (rows - n) columns

@@ -145,7 +145,7 @@ module _ (s : Space) (a e : ℕ) (p : PartOf s a e) where
       weighs = record {
         table = t;
         holds = held;
-        rows = proper.shaped.row_count;
+        rows = proper.shaped.row_count_lem;
         few = proper.shaped.rows_fit;
         unit = λ i c. weight_num_le_den part (record { table = t; is = then_answers weights part-checked ∙ w }) i c;
       }
@@ -179,7 +179,7 @@ module _ (s : Space) (a e : ℕ) (p : PartOf s a e) where
       }
         where
           size : {t : Table} → weights part ≡ answer t → length t ≡ n
-          size w = (proper w).shaped.row_count ∙ sym answered.count
+          size w = (proper w).shaped.row_count_lem ∙ sym answered.count
 
     -- it is refused
     pub leaves_refused : {code place : ℕ} (coefs : Wood → ℕ → ℤ) {early' late' : List ℤ} → r ≡ Refused code place

@@ -116,4 +116,4 @@ unfolding recover_orders
 orders_all s j n r later qs {rows} {columns} sound idle =
     repeat_through (λ k u. (m : ℕ) × Sound u m columns) n (λ k. recover_step j (conditions s j k)) (λ u. record { table = u.table ++ later; coefficients = u.coefficients ++ qs }) r (rows, sound)
     (λ k u v l p e. (p.0 - 1, recover_one_less j (conditions s j k) u e p.1))
-    (λ k u l p. recover_all j (conditions s j k) u.table later (idle k l) u.coefficients qs (omega (arith, p.1.count, p.1.proper.shaped.row_count)))
+    (λ k u l p. recover_all j (conditions s j k) u.table later (idle k l) u.coefficients qs (omega (arith, p.1.count, p.1.proper.shaped.row_count_lem)))

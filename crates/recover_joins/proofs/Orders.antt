@@ -79,7 +79,7 @@ pub recover_one_less : (j : ℕ) (κ : List Entry) (r : Combination) {next : Com
 recover_one_less j κ r {next} {rows} {columns} e sound =
     let p = parts_of j κ r next e in
     let s = span_inverts j p.own.js p.own.has_span in
-    let below : p.own.g.l < length r.coefficients = omega (arith, s.below, jumps_length j κ r.table p.own.has_jumps, sound.proper.shaped.row_count, sound.count) in
+    let below : p.own.g.l < length r.coefficients = omega (arith, s.below, jumps_length j κ r.table p.own.has_jumps, sound.proper.shaped.row_count_lem, sound.count) in
     let size = (rows-undone j p.own.ws r.coefficients p.own.g.f (p.own.g.l - p.own.g.f) p.has_rows).size in
     record {
       proper = step_one_less j κ r.table p.has_step sound.proper;

@@ -22,59 +22,59 @@ use Rattle.build.proofs.build.Tie as tie
 abbrev lists : tie.Start → Space
 lists c = space c.args.breaks.now c.args.degrees.now c.args.orders.now
 
-returns : tie.Need-returns
+returns : tie.Need-returns-then-num-lt-TABLE_CELLS
 returns c =
-    let s = c.before in
-    let e = beam_unchanged (lists s) _ _ _ (built-first-short (lists s) (length s.args.num.now) (length s.args.den.now) c.if1.true) refl in
+    let s = c in
+    let e = beam_unchanged (lists s.before) _ _ _ (built-first-short (lists s.before) (length s.args.num.now) (length s.args.den.now) c.if-num-lt-TABLE_CELLS.true) refl in
     (e.answers, (e.numerators_are, e.denominators_are))
 
-returns-2 : tie.Need-returns-2
+returns-2 : tie.Need-returns-then-den-lt-TABLE_CELLS
 returns-2 c =
-    let s = c.before.before in
-    let e = beam_unchanged (lists s) _ _ _ (built-second-short (lists s) (length s.args.num.now) (length s.args.den.now) c.before.if1.false c.if2.true) refl in
+    let s = c in
+    let e = beam_unchanged (lists s.before.before) _ _ _ (built-second-short (lists s.before.before) (length s.args.num.now) (length s.args.den.now) c.if-num-lt-TABLE_CELLS.false c.if-den-lt-TABLE_CELLS.true) refl in
     (e.answers, (e.numerators_are, e.denominators_are))
 
 -- both buffers are long enough
-module _ (c : tie.Else2) where
-  first_long : table_cells ≤ length c.before.before.args.num.now
+module _ (c : tie.Else-den-lt-TABLE_CELLS) where
+  first_long : table_cells ≤ length c.args.num.now
   first_long = omega arith
 
-  second_long : table_cells ≤ length c.before.before.args.den.now
+  second_long : table_cells ≤ length c.args.den.now
   second_long = omega arith
 
-legal : (c : tie.After-enum-told) → let a = c.before.before.before.before.before.args in ListsLegal a.breaks.now a.degrees.now a.orders.now
-legal c = legality_legal _ _ _ (sym c.before.before.check.ensures ∙ c.enum_told.given.1)
+legal : (c : tie.In-Legal) → let a = c.args in ListsLegal a.breaks.now a.degrees.now a.orders.now
+legal c = legality_legal _ _ _ (sym c.check-legality.ensures ∙ c.in-Legal.is)
 
-build-parts-requires : tie.Need-build-parts-requires
+build-parts-requires : tie.Need-build_parts-requires
 build-parts-requires c κs =
-    let t = c.before.before in
-    let l = t.before.before.before in
-    record { legal = legal t; room = record { num_long = first_long l; den_long = second_long l } }
+    let t = c in
+    let l = t in
+    record { legal = legal t.before.before; room = record { num_long = first_long l.before.before.before.before; den_long = second_long l.before.before.before.before } }
 
-returns-3 : tie.Need-returns-3
+returns-3 : tie.Need-returns-in-Legal
 returns-3 c =
-    let b = c.before.before in
-    let t = b.before.before.before in
-    let l = t.before.before.before in
-    let s = l.before.before in
-    let w = built-weights (lists s) _ _ (first_long l) (second_long l) (legal_checked _ _ _ (legal t)) in (
-      b.build-parts.ensures.answers ∙ ap (with_answer (λ _. row_count (lists s))) (sym w),
+    let b = c in
+    let t = b in
+    let l = t in
+    let s = l in
+    let w = built-weights (lists s.before.before.before.before.before.before.before.before.before) _ _ (first_long l.before.before.before.before.before.before.before) (second_long l.before.before.before.before.before.before.before) (legal_checked _ _ _ (legal t.before.before.before.before.before)) in (
+      b.build_parts.ensures.answers ∙ ap (with_answer (λ _. row_count (lists s.before.before.before.before.before.before.before.before.before))) (sym w),
       (
-        b.build-parts.ensures.numerators_are ∙ ap (λ o. numerators_after (with_answer (last_part (lists s)) o) s.args.num.now) (sym w),
-        b.build-parts.ensures.denominators_are ∙ ap (λ o. denominators_after (with_answer (last_part (lists s)) o) s.args.den.now) (sym w),
+        b.build_parts.ensures.numerators_are ∙ ap (λ o. numerators_after (with_answer (last_part (lists s.before.before.before.before.before.before.before.before.before)) o) s.args.num.now) (sym w),
+        b.build_parts.ensures.denominators_are ∙ ap (λ o. denominators_after (with_answer (last_part (lists s.before.before.before.before.before.before.before.before.before)) o) s.args.den.now) (sym w),
       ),
     )
 
-returns-4 : tie.Need-returns-4
+returns-4 : tie.Need-returns-in-Refused
 returns-4 c =
-    let a = c.before.before.before in
-    let l = a.before in
-    let s = l.before.before in
-    let r = refused_refuses (checked (lists s)) (sym a.check.ensures ∙ c.before.legality.given.1) in
-    let e = beam_unchanged (lists s) _ _ _ (built_refused (lists s) _ _ (first_long l) (second_long l) r) (checked_codes (lists s) r) in
+    let a = c in
+    let l = a in
+    let s = l in
+    let r = refused_refuses (checked (lists s.before.before.before.before)) (sym a.check-legality.ensures ∙ c.in-Refused.is) in
+    let e = beam_unchanged (lists s.before.before.before.before) _ _ _ (built_refused (lists s.before.before.before.before) _ _ (first_long l.before.before) (second_long l.before.before) r) (checked_codes (lists s.before.before.before.before) r) in
     (e.answers, (e.numerators_are, e.denominators_are))
 
-pub build-spec : {M : Type 1} → statement M
-build-spec =
+pub build_spec : {M : Type 1} → statement M
+build_spec =
     tie.close (tie.spec returns returns-2 (λ c κs. search rules) (λ c. search rules) build-parts-requires (λ c. search rules)
     (λ c. search rules) (λ c. search rules) returns-3 returns-4)

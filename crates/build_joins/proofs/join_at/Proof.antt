@@ -11,13 +11,13 @@ use Rattle.build_joins.proofs.join_at.Tie as tie
 
 returns : tie.Need-returns
 returns c =
-    let s = c.before.before in
+    let s = c in
     record {
-      left_is = c.before.side-at.ensures;
-      right_is = subst (SideIs c.side-at2.result (space s.args.breaks.now s.args.degrees.now [])) (add-one s.args.j) c.side-at2.ensures;
+      left_is = c.side_at-left.ensures;
+      right_is = subst (SideIs c.side_at-right.result (space s.args.breaks.now s.args.degrees.now [])) (add-one s.args.j) c.side_at-right.ensures;
     }
 
-pub join-at-spec : {M : Type 1} → statement M
-join-at-spec =
+pub join_at_spec : {M : Type 1} → statement M
+join_at_spec =
     tie.close (tie.spec (λ c κs. let p = c.requires in record { orders = p.orders; legal = p.legal; below = omega arith }) (λ c. search rules)
-    (λ c κs. c.before.requires) returns)
+    (λ c κs. c.requires) returns)

@@ -11,13 +11,13 @@ use Rattle.build_joins.proofs.side_at.Tie as tie
 
 returns : tie.Need-returns
 returns c =
-    let s = c.before.before.before in
-    let l : SFits w64 c.before.segment-length.result = record { sfits = c.before.segment-length.type-inv } in
+    let s = c in
+    let l : SFits w64 c.segment_length-length.result = record { sfits = c.segment_length-length.type_inv } in
     record {
-      degree_is = c.before.before.degree-at.ensures;
-      length_is = simp to_z-of_z c.before.segment-length.ensures;
-      column_is = c.first-column.ensures ∙ first-column_partial s.args.breaks.now s.args.degrees.now [] s.args.i;
+      degree_is = c.degree_at-degree.ensures;
+      length_is = simp to_z-of_z c.segment_length-length.ensures;
+      column_is = c.first_column-column.ensures ∙ first-column_partial s.args.breaks.now s.args.degrees.now [] s.args.i;
     }
 
-pub side-at-spec : {M : Type 1} → statement M
-side-at-spec = tie.close (tie.spec (λ c κs. search rules) (λ c κs. search rules) (λ c κs. search rules) returns)
+pub side_at_spec : {M : Type 1} → statement M
+side_at_spec = tie.close (tie.spec (λ c κs. search rules) (λ c κs. search rules) (λ c κs. search rules) returns)

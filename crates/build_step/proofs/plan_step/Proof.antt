@@ -16,23 +16,23 @@ use Rattle.build_step.proofs.plan_step.Statement.{statement}
 use Rattle.build_step.proofs.plan_step.Tie as tie
 
 -- the rows that they span
-module _ (c : tie.After-span2) (qs : List ℚ) (j : ℕ) (e : c.before.before.before.args.js ≡ fractions qs)
-    (size : length qs ≡ c.before.before.before.args.rows) where
-  span_is : span j qs ≡ answer (record { f = c.span2.given.0.0; l = c.span2.given.0.1.0 })
-  span_is = span-rows _ _ _ (sym (c.before.before.span.ensures qs j e size) ∙ c.span2.given.1)
+module _ (c : tie.In-Rows) (qs : List ℚ) (j : ℕ) (e : c.args.js ≡ fractions qs)
+    (size : length qs ≡ c.args.rows) where
+  span_is : span j qs ≡ answer (record { f = c.in-Rows.f; l = c.in-Rows.l })
+  span_is = span-rows _ _ _ (sym (c.span-span.ensures qs j e size) ∙ c.in-Rows.is)
 
 factors-requires : tie.Need-factors-requires
 factors-requires c κs =
-    let p = c.before.before.before.before.requires in
+    let p = c.requires in
     let js = p.jumps in
-    spanned 0 js.of js.is js.fit (omega (arith, js.count, p.few)) (span_is c.before js.of 0 js.is js.count)
+    spanned 0 js.of js.is js.fit (omega (arith, js.count, p.few)) (span_is c js.of 0 js.is js.count)
 
-returns : tie.Need-returns
+returns : tie.Need-returns-in-Nothing
 returns c qs j e size =
     plans_shapeless j qs _
-    (span_refused _ (sym (c.before.before.before.span.ensures qs j e size) ∙ c.before.enum_told.given.1)) c.no-factors.ensures.0
+    (span_refused _ (sym (c.span-span.ensures qs j e size) ∙ c.in-Nothing.is)) c.no_factors.ensures.0
 
-pub plan-step-spec : {M : Type 1} → statement M
-plan-step-spec =
+pub plan_step_spec : {M : Type 1} → statement M
+plan_step_spec =
     tie.close (tie.spec (λ c κs. search rules) (λ c. search rules) (λ c κs. search rules) (λ c. search rules) factors-requires returns
-    (λ c qs j e size. plans_over j qs _ (span_is c.before.before qs j e size) (c.factors.ensures qs j e)))
+    (λ c qs j e size. plans_over j qs _ (span_is c.before qs j e size) (c.factors.ensures qs j e)))

@@ -21,7 +21,7 @@ use Rattle.curve.proofs.curve.Statement.{statement}
 use Rattle.curve.proofs.curve.Tie as tie
 
 -- the call, the lists that it lends, and what is left in them
-module _ (d : tie.After-build-curves) where
+module _ (d : tie.After-build_curves-built) where
   abbrev start : tie.Start
   start = d.before.before.before.before.before
 
@@ -33,20 +33,20 @@ module _ (d : tie.After-build-curves) where
   lent₀ = lent start.args.num.now start.args.den.now (replicate column_limit (pos 0)) (replicate column_limit (pos 0))
 
   abbrev left : Lent
-  left = let l = d.build-curves.last.1.1.1.1.1.1 in lent l.0 l.1.0 l.1.1.0 l.1.1.1.0
+  left = let l = d.build_curves-built.new in lent l.num l.den l.early l.late
 
   abbrev Told : Answer → Type 0
   Told = CurvesTold asked lent₀ left
 
 -- after an answer
-module _ (t : tie.After-enum-told) where
-  abbrev done : tie.After-build-curves
-  done = t.before.before.before.before.before.before
+module _ (t : tie.In-Count) where
+  abbrev done : tie.After-build_curves-built
+  done = t.before.before.before.before.before
 
-  held : Told done (Count t.enum_told.given.0.0)
-  held = subst (Told done) t.enum_told.given.1 done.build-curves.ensures.told
+  held : Told done (Count t.in-Count.field-0)
+  held = subst (Told done) t.in-Count.is done.build_curves-built.ensures.told
 
-write-values-requires : tie.Need-write-values-requires
+write-values-requires : tie.Need-write_values-requires
 write-values-requires c κs =
     let h = held c.before.before.before in
     record {
@@ -57,31 +57,31 @@ write-values-requires c κs =
       late_ordinates = record { long = search rules; bounded = late_bounded column_limit h };
     }
 
-returns : tie.Need-returns
+returns : tie.Need-returns-in-Refused
 returns c =
-    let d = c.before.before.before.before.before.before.before in
-    let l = d.build-curves.ensures in
-    let r = subst (Told d) c.before.built.given.1 l.told in
-    (refused_answers r, (l.numerators_are, (l.denominators_are, refused_values r (start d).args.values.now)))
+    let d = c in
+    let l = d.build_curves-built.ensures in
+    let r = subst (Told d.before.before.before.before.before) c.in-Refused.is l.told in
+    (refused_answers r, (l.numerators_are, (l.denominators_are, refused_values r (start d.before.before.before.before.before).args.values.now)))
 
-returns-2 : tie.Need-returns-2
+returns-2 : tie.Need-returns-in-Count
 returns-2 c =
-    let t = c.before.before.before.before.before in
-    let d = done t in
-    let h = held t in
-    let l = d.build-curves.ensures in
+    let t = c in
+    let d = done t.before.before.before.before.before in
+    let h = held t.before.before.before.before.before in
+    let l = d.build_curves-built.ensures in
     let s = (asked d).lists in
     let coefs = (start d).args.coefs.now in
     let ps = (start d).args.positions.now in
     let vs = (start d).args.values.now in
     let n = values_length_lem s h.table coefs ps in
-    let written = c.before.write-values.ensures
+    let written = c.write_values.ensures
     ∙ ap₂ (λ (e l : List ℤ). side_by_side (map (pair_of s e l) ps) ++ drop (2 * length ps) vs) h.early_is h.late_is
     ∙ ap (λ (v : List Pair). side_by_side v ++ drop (2 * length ps) vs) (pairs_fronted s h.table column_limit coefs ps) in
     (written-answers h.is n, (l.numerators_are, (l.denominators_are, written-values h.is n vs written)))
 
-pub curve-spec : {M : Type 1} → statement M
-curve-spec =
+pub curve_spec : {M : Type 1} → statement M
+curve_spec =
     tie.close (tie.spec (λ c. search rules) (λ c. search rules) (λ c κs. search rules) (λ c. search rules) (λ c. search rules)
     (λ c. search rules) (λ c. search rules) write-values-requires (λ c. search rules) (λ c. search rules) returns (λ c. search rules)
     (λ c. search rules) (λ c. search rules) returns-2)

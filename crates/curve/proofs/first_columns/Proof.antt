@@ -14,33 +14,33 @@ use Rattle.curve_places.proofs.Position.{columns-filled}
 use Rattle.curve.proofs.first_columns.Statement.{statement}
 use Rattle.curve.proofs.first_columns.Tie as tie
 
-abbrev invariant-loop : tie.invariant-loop
+abbrev invariant-loop : tie.invariant-loop-i
 invariant-loop degrees columns₀ column₀ i₀ columns column i = let s = space [] degrees [] in
     (i ≤ length degrees) × ((column ≡ first_column s i) × (columns ≡ tab i (first_column s) ++ drop i (replicate 48 0)))
 
-abbrev decreases-loop : tie.decreases-loop
+abbrev decreases-loop : tie.decreases-loop-i
 decreases-loop degrees columns₀ column₀ i₀ columns column i = length degrees - i
 
-module _ (c : tie.After-degree-at invariant-loop decreases-loop) where
+module _ (c : tie.After-degree_at invariant-loop decreases-loop) where
   abbrev lists : Space
-  lists = space [] c.before.before.before.args.degrees.now []
+  lists = space [] c.args.degrees.now []
 
   abbrev i : ℕ
-  i = c.before.before.loop.i
+  i = c.loop-i.i
 
-  degree-fits : c.degree-at.result ≤ 5
-  degree-fits = omega (arith, c.degree-at.ensures, degree-high lists c.before.before.before.requires.legal i (omega arith))
+  degree-fits : c.degree_at.result ≤ 5
+  degree-fits = omega (arith, c.degree_at.ensures, degree-high lists c.requires.legal i (omega arith))
 
-  column_fits : c.before.before.loop.column ≤ 288
-  column_fits = omega (arith, first-column-high lists c.before.before.before.requires.legal i (omega arith))
+  column_fits : c.loop-i.column ≤ 288
+  column_fits = omega (arith, first-column-high lists c.requires.legal i (omega arith))
 
-loop-again : tie.Need-loop-preserved invariant-loop decreases-loop
+loop-again : tie.Need-loop-i-preserved invariant-loop decreases-loop
 loop-again c =
-    let l = c.before.before.loop in
+    let l = c.loop-i in
     let next : i c + 1 ≡ suc (i c) = omega arith in (
       omega arith,
       (
-        omega (arith, c.degree-at.ensures, first-column-next (lists c) (i c), ap (first_column (lists c)) next),
+        omega (arith, c.degree_at.ensures, first-column-next (lists c) (i c), ap (first_column (lists c)) next),
         ap₂ (λ (cs : List ℕ) (v : ℕ). set cs (i c) v) l.invariant.1.1 l.invariant.1.0
             ∙ tab_more (first_column (lists c)) (i c) (replicate 48 0) (omega arith),
       ),
@@ -48,14 +48,14 @@ loop-again c =
 
 returns : tie.Need-returns invariant-loop decreases-loop
 returns c =
-    let d = c.before.before.args.degrees.now in
-    let all : c.before.loop.i ≡ length d = omega arith in
-    c.before.loop.invariant.1.1
+    let d = c.args.degrees.now in
+    let all : c.loop-i.i ≡ length d = omega arith in
+    c.loop-i.invariant.1.1
     ∙ ap (λ (i : ℕ). tab i (first_column (space [] d [])) ++ drop i (replicate 48 0)) all
-    ∙ columns-filled d c.before.before.requires.few
+    ∙ columns-filled d c.requires.few
 
-pub first-columns-spec : {M : Type 1} → statement M
-first-columns-spec =
+pub first_columns_spec : {M : Type 1} → statement M
+first_columns_spec =
     tie.close (tie.spec invariant-loop decreases-loop (λ c. (omega arith, (sym (first-column-zero _), tab-none _ _))) (λ c. omega arith)
-    (λ c. omega arith) (λ c κs. (omega arith, c.before.before.requires.legal)) (λ c. omega (arith, degree-fits c))
+    (λ c. omega arith) (λ c κs. (omega arith, c.requires.legal)) (λ c. omega (arith, degree-fits c))
     (λ c. omega (arith, degree-fits c, column_fits c)) (λ c. omega arith) (λ c. omega arith) loop-again returns)

@@ -11,9 +11,9 @@ use Rattle.curve_drawing.proofs.scaled.Tie as tie
 
 returns : tie.Need-returns
 returns c =
-    let f = c.before.ranges.x in
-    simp to_z-of_z (subst (λ (k : Float). Is (mul binary64 (of_int binary64 c.before.args.x) k) c.before.args.x 256) (sym scale_is)
-    (scaled_is _ _ _ (omega (arith, abs_sfits f)) (cast_is c.before.args.x (omega (arith, abs_sfits f)))))
+    let f = c.ranges.x in
+    simp to_z-of_z (subst (λ (k : Float). Is (mul binary64 (of_int binary64 c.args.x) k) c.args.x 256) (sym scale_is)
+    (scaled_is _ _ _ (omega (arith, abs_sfits f)) (cast_is c.args.x (omega (arith, abs_sfits f)))))
 
-pub scaled-spec : {M : Type 1} → statement M
-scaled-spec = tie.close (tie.spec (λ c. search rules) returns)
+pub scaled_spec : {M : Type 1} → statement M
+scaled_spec = tie.close (tie.spec (λ c. search rules) returns)

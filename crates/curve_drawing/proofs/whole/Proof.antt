@@ -7,7 +7,7 @@ use Rattle.curve_drawing.proofs.whole.Statement.{statement}
 use Rattle.curve_drawing.proofs.whole.Tie as tie
 
 returns : tie.Need-returns
-returns c = let f = c.before.ranges.x in simp to_z-of_z (cast_is c.before.args.x (omega (arith, abs_sfits f)))
+returns c = let f = c.ranges.x in simp to_z-of_z (cast_is c.args.x (omega (arith, abs_sfits f)))
 
-pub whole-spec : {M : Type 1} → statement M
-whole-spec = tie.close (tie.spec (λ c. search rules) returns)
+pub whole_spec : {M : Type 1} → statement M
+whole_spec = tie.close (tie.spec (λ c. search rules) returns)

@@ -22,7 +22,7 @@ lies : (c : tie.Start) → Lies (length c.args.breaks.now) (length c.args.degree
 lies c = let p = c.requires.part in part_lies _ _ _ p.legal p.starts p.ends
 
 -- the part is built
-module _ (c : tie.After-build) where
+module _ (c : tie.After-build-built) where
   abbrev start : tie.Start
   start = c.before.before.before.before.before.before
 
@@ -30,11 +30,11 @@ module _ (c : tie.After-build) where
   part = part_at (lists start) start.args.a
 
   columns-fit : {n : ℕ} → n ≡ column_count part → n ≤ row_cells
-  columns-fit e = omega (arith, part-columns_few (lists start) _ _ start.pre.part)
+  columns-fit e = omega (arith, part-columns_few (lists start) _ _ start.requires.part)
 
-module _ (c : tie.After-built2) where
-  abbrev done : tie.After-build
-  done = c.before.before.before.before
+module _ (c : tie.In-Count) where
+  abbrev done : tie.After-build-built
+  done = c.before.before.before
 
   abbrev entry : tie.Start
   entry = start done
@@ -43,51 +43,51 @@ module _ (c : tie.After-built2) where
   row = entry.args.row
 
   abbrev rows : ℕ
-  rows = c.built2.given.0.0
+  rows = c.in-Count.n
 
   rows_are : rows ≡ row_count (part done)
-  rows_are = rows_told (lists entry) _ _ entry.pre.part _ _ _ _ entry.pre.room _ done.build.ensures c.built2.given.1
+  rows_are = rows_told (lists entry) _ _ entry.requires.part _ _ _ _ entry.requires.room _ done.build-built.ensures c.in-Count.is
 
   rows-within : row + rows ≤ row_count (lists entry)
-  rows-within = omega (arith, rows_are, entry.pre.rows-within)
+  rows-within = omega (arith, rows_are, entry.requires.rows-within)
 
   rows_few : row + rows ≤ 288
-  rows_few = omega (arith, rows-within, beam-rows_few (lists entry) _ _ entry.pre.part)
+  rows_few = omega (arith, rows-within, beam-rows_few (lists entry) _ _ entry.requires.part)
 
-  weighed : Weighs done.build.last.1.1.1.0 done.build.last.1.1.1.1.0 rows
-  weighed = weighs_rows (lists entry) _ _ entry.pre.part _ _ _ _ entry.pre.room _ done.build.ensures c.built2.given.1
+  weighed : Weighs done.build-built.new.num done.build-built.new.den rows
+  weighed = weighs_rows (lists entry) _ _ entry.requires.part _ _ _ _ entry.requires.room _ done.build-built.ensures c.in-Count.is
 
   own_coefficients : Coefficients (rows_from row rows entry.args.coefs.now) rows
-  own_coefficients = middle_coefficients entry.args.coefs.now (row_count (lists entry)) row rows entry.pre.coefficients rows-within
+  own_coefficients = middle_coefficients entry.args.coefs.now (row_count (lists entry)) row rows entry.requires.coefficients rows-within
 
-  own-rows : WeighedRows done.build.last.1.1.1.0 done.build.last.1.1.1.1.0 (rows_from row rows entry.args.coefs.now)
+  own-rows : WeighedRows done.build-built.new.num done.build-built.new.den (rows_from row rows entry.args.coefs.now)
       rows
   own-rows = record { weights = weighed; coefficients = own_coefficients }
 
 ordinates-requires : tie.Need-ordinates-requires
-ordinates-requires c κs = let k = c.before.before.before.before.before in
-    record { rows = own-rows k; columns_few = columns-fit (done k) (entry k).requires.early_long }
+ordinates-requires c κs = let k = c in
+    record { rows = own-rows k.before.before; columns_few = columns-fit (done k.before.before) (entry k.before.before).requires.early_long }
 
-ordinates-requires-2 : tie.Need-ordinates-requires-2
-ordinates-requires-2 c κs = let k = c.before.before.before.before.before.before.before.before.before.before in
-    record { rows = own-rows k; columns_few = columns-fit (done k) (entry k).requires.late_long }
+ordinates-requires-2 : tie.Need-ordinates-requires-in-Count
+ordinates-requires-2 c κs = let k = c in
+    record { rows = own-rows k.before.before.before.before.before; columns_few = columns-fit (done k.before.before.before.before.before) (entry k.before.before.before.before.before).requires.late_long }
 
-returns : tie.Need-returns
+returns : tie.Need-returns-in-Refused
 returns c =
-    let d = c.before.before.before.before.before in
-    let s = start d in
-    leaves_refused (lists s) _ _ s.pre.part _ _ _ _ s.pre.room _ d.build.ensures _ c.before.built.given.1
+    let d = c in
+    let s = start d.before.before.before in
+    leaves_refused (lists s) _ _ s.requires.part _ _ _ _ s.requires.room _ d.build-built.ensures _ c.in-Refused.is
 
-returns-2 : tie.Need-returns-2
+returns-2 : tie.Need-returns-in-Count
 returns-2 c =
-    let o = c.before.before.before.before.before.before in let k = o.before.before.before.before.before.before in
-    let s = entry k in
-    leaves_rows (lists s) _ _ s.pre.part _ _ _ _ s.pre.room _ (done k).build.ensures k.built2.given.1
-    s.args.coefs.now s.args.row s.pre.early_long s.pre.late_long
-    o.ordinates.ensures c.before.ordinates2.ensures
+    let o = c in let k = o in
+    let s = entry k.before.before.before.before.before.before.before in
+    leaves_rows (lists s) _ _ s.requires.part _ _ _ _ s.requires.room _ (done k.before.before.before.before.before.before.before).build-built.ensures k.in-Count.is
+    s.args.coefs.now s.args.row s.requires.early_long s.requires.late_long
+    o.ordinates.ensures c.ordinates-in-Count.ensures
 
-pub build-part-spec : {M : Type 1} → statement M
-build-part-spec =
+pub build_part_spec : {M : Type 1} → statement M
+build_part_spec =
     tie.close (tie.spec (λ c. let l = lies c in omega arith) (λ c. search rules) (λ c. let l = lies c in omega arith)
     (λ c. let l = lies c in omega arith) (λ c. let l = lies c in omega arith) (λ c. search rules)
     (λ c. let l = lies c.before in omega arith) (λ c. let l = lies c.before in omega arith)
@@ -95,9 +95,9 @@ build-part-spec =
     (λ c. let l = lies c.before.before in omega arith) (λ c. let l = lies c.before.before in omega arith)
     (λ c. let l = lies c.before.before in omega arith)
     (λ c κs. search rules) (λ c. search rules) (λ c. search rules) (λ c. search rules)
-    (λ c. let k = c.before in omega (arith, rows-within k, rows_few k, (entry k).requires.coefficients.count))
-    (λ c. let k = c.before in omega (arith, rows-within k, rows_few k, (entry k).requires.coefficients.count)) (λ c. search rules)
+    (λ c. let k = c in omega (arith, rows-within k, rows_few k, (entry k).requires.coefficients.count))
+    (λ c. let k = c in omega (arith, rows-within k, rows_few k, (entry k).requires.coefficients.count)) (λ c. search rules)
     (λ c. search rules) (λ c. search rules)
-    (λ c. let k = c.before in omega (arith, rows-within k, rows_few k, (entry k).requires.coefficients.count)) ordinates-requires
+    (λ c. let k = c in omega (arith, rows-within k, rows_few k, (entry k).requires.coefficients.count)) ordinates-requires
     ordinates-requires-2 (λ c. search rules) (λ c. search rules) returns (λ c. search rules) (λ c. search rules) (λ c. search rules)
     (λ c. search rules) returns-2)

@@ -15,32 +15,32 @@ module _ (s : tie.Start) where
 
   -- the named number has 32 bits
   small : s.args.segment ≤ largest_place
-  small = omega (arith, s.fits.segment.fits)
+  small = omega (arith, s.ranges.segment.fits)
 
-returns : tie.Need-returns
-returns c = let s = c.before in missing_replies (lists s) s.args.ordinates.now s.args.segment (small s) c.if1.true
+returns : tie.Need-returns-then-k-degrees
+returns c = let s = c in missing_replies (lists s.before) s.args.ordinates.now s.args.segment (small s.before) c.if-k-degrees.true
 
-returns-2 : tie.Need-returns-2
+returns-2 : tie.Need-returns-then-degree_at-gt-DRAWABLE_DEGREE
 returns-2 c =
-    let s = c.before.before.before in
-    high-replies (lists s) s.args.ordinates.now s.args.segment (small s) c.before.before.if1.false
-    (omega (arith, c.if2.true, c.before.degree-at.ensures))
+    let s = c in
+    high-replies (lists s.before.before.before) s.args.ordinates.now s.args.segment (small s.before.before.before) c.if-k-degrees.false
+    (omega (arith, c.if-degree_at-gt-DRAWABLE_DEGREE.true, c.degree_at.ensures))
 
-piece-at-requires : tie.Need-piece-at-requires
+piece-at-requires : tie.Need-piece_at-piece-requires
 piece-at-requires c κs =
-    let s = c.before.before.before in
+    let s = c in
     record {
       legal = s.requires.legal;
-      segment-within = c.before.before.if1.false;
-      drawable = omega (arith, c.if2.false, c.before.degree-at.ensures);
+      segment-within = c.if-k-degrees.false;
+      drawable = omega (arith, c.if-degree_at-gt-DRAWABLE_DEGREE.false, c.degree_at.ensures);
       long = s.requires.long;
     }
 
-returns-3 : tie.Need-returns-3
+returns-3 : tie.Need-returns
 returns-3 c =
-    let s = c.before.before.before.before in
-    drawn_replies (lists s) s.args.ordinates.now s.args.segment c.before.before.before.if1.false
-    (omega (arith, c.before.if2.false, c.before.before.degree-at.ensures)) c.piece-at.ensures
+    let s = c in
+    drawn_replies (lists s.before.before.before.before) s.args.ordinates.now s.args.segment c.if-k-degrees.false
+    (omega (arith, c.if-degree_at-gt-DRAWABLE_DEGREE.false, c.degree_at.ensures)) c.piece_at-piece.ensures
 
-pub draw-spec : {M : Type 1} → statement M
-draw-spec = tie.close (tie.spec returns (λ c κs. search rules) returns-2 piece-at-requires returns-3)
+pub draw_spec : {M : Type 1} → statement M
+draw_spec = tie.close (tie.spec returns (λ c κs. search rules) returns-2 piece-at-requires returns-3)

@@ -26,10 +26,10 @@ module _ (s : tie.Start) where
   width_fits = sfits_widen s.ranges.width
 
   target_fits : SFits w64 (pos 256 *ℤ s.args.width)
-  target_fits = sfits_abs (omega (arith, abs_mul_le (pos 256) s.args.width 256 2147483648 (omega arith) (abs_sfits s.fits.width)))
+  target_fits = sfits_abs (omega (arith, abs_mul_le (pos 256) s.args.width 256 2147483648 (omega arith) (abs_sfits s.ranges.width)))
 
 -- what the search has found, for the width read back from its word
-module _ (c : tie.After-search) where
+module _ (c : tie.After-search-found) where
   abbrev start : tie.Start
   start = c.before
 
@@ -39,23 +39,23 @@ module _ (c : tie.After-search) where
   abbrev searched : Option ℕ
   searched = first (position_count beam) (reaches_held beam start.args.ordinates.now (fine start.args.width))
 
-  told : c.search.result ≡ found beam searched
-  told = let f = start.fits.width in let g = width_fits start in let h = target_fits start in simp to_z-of_z at c.search.ensures
+  told : c.search-found.result ≡ found beam searched
+  told = let f = start.ranges.width in let g = width_fits start in let h = target_fits start in simp to_z-of_z at c.search-found.ensures
 
-returns : tie.Need-returns
+returns : tie.Need-returns-in-At
 unfolding reply
 returns c =
-    let s = c.before.before.before in
-    let f : SFits w32 c.before.found.given.0.0 = record { sfits = c.known-told.given.0.1 } in
-    ap answer (to_z-of_z w32 c.before.found.given.0.0 f)
-    ∙ found-reached (beam s) (searched s) c.before.found.given.0.0 (sym c.before.found.given.1 ∙ told s)
+    let s = c in
+    let f : SFits w32 c.in-At.x = record { sfits = c.in-At.known_told-1-own.given.0.1 } in
+    ap answer (to_z-of_z w32 c.in-At.x f)
+    ∙ found-reached (beam s.before) (searched s.before) c.in-At.x (sym c.in-At.is ∙ told s.before)
 
-returns-2 : tie.Need-returns-2
+returns-2 : tie.Need-returns-in-Nowhere
 unfolding reply
-returns-2 c = let s = c.before.before in nowhere_reached (beam s) (searched s) (sym c.enum_told.given.1 ∙ told s)
+returns-2 c = let s = c in nowhere_reached (beam s.before) (searched s.before) (sym c.in-Nowhere.is ∙ told s.before)
 
-pub first-reach-spec : {M : Type 1} → statement M
-first-reach-spec =
+pub first_reach_spec : {M : Type 1} → statement M
+first_reach_spec =
     tie.close (tie.spec (λ c. let f = c.ranges.width in simp to_z-of_z (width_fits c))
     (λ c. let f = c.ranges.width in let g = width_fits c in simp to_z-of_z (target_fits c)) (λ c κs. search rules) (λ c. search rules)
     (λ c. search rules) returns returns-2)

@@ -29,18 +29,18 @@ module _ (s : tie.Start) where
   abbrev of : Wood → List ℤ
   of wood = chosen (wood_of wood) s.args.early.now s.args.late.now
 
-returns : tie.Need-returns
+returns : tie.Need-returns-in-Earlywood
 returns c =
-    let s = c.before.before.before in
+    let s = c in
     let f = s.ranges.width in
-    (simp to_z-of_z at c.first_reach.ensures) ∙ ap (λ wood. answered s (of s wood)) (sym c.before.enum_told.given.1)
+    (simp to_z-of_z at c.first_reach.ensures) ∙ ap (λ wood. answered s.before.before (of s.before.before wood)) (sym c.in-Earlywood.is)
 
-returns-2 : tie.Need-returns-2
+returns-2 : tie.Need-returns-in-Latewood
 returns-2 c =
-    let s = c.before.before.before in
+    let s = c in
     let f = s.ranges.width in
-    (simp to_z-of_z at c.first-reach2.ensures) ∙ ap (λ wood. answered s (of s wood)) (sym c.before.enum-told2.given.1)
+    (simp to_z-of_z at c.first_reach-in-Latewood.ensures) ∙ ap (λ wood. answered s.before.before (of s.before.before wood)) (sym c.in-Latewood.is)
 
-pub part-reach-spec : {M : Type 1} → statement M
-part-reach-spec =
+pub part_reach_spec : {M : Type 1} → statement M
+part_reach_spec =
     tie.close (tie.spec (λ c. search rules) (λ c κs. search rules) (λ c. search rules) (λ c κs. search rules) returns returns-2)

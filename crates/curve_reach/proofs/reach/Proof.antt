@@ -22,7 +22,7 @@ use Rattle.curve_reach.proofs.reach.Statement.{statement}
 use Rattle.curve_reach.proofs.reach.Tie as tie
 
 -- the call without positions, the lists that it lends, and what is left in them
-module _ (d : tie.After-build-curves) where
+module _ (d : tie.After-build_curves-built) where
   abbrev start : tie.Start
   start = d.before.before.before.before.before.before
 
@@ -39,18 +39,18 @@ module _ (d : tie.After-build-curves) where
   lent₀ = lent start.args.num.now start.args.den.now (replicate column_limit (pos 0)) (replicate column_limit (pos 0))
 
   abbrev left : Lent
-  left = let l = d.build-curves.last.1.1.1.1.1.1 in lent l.0 l.1.0 l.1.1.0 l.1.1.1.0
+  left = let l = d.build_curves-built.new in lent l.num l.den l.early l.late
 
   abbrev Told : Answer → Type 0
   Told = CurvesTold (call beam coefs [] 0) lent₀ left
 
 -- after an answer
-module _ (t : tie.After-enum-told) where
-  abbrev done : tie.After-build-curves
-  done = t.before.before.before.before.before.before
+module _ (t : tie.In-Count) where
+  abbrev done : tie.After-build_curves-built
+  done = t.before.before.before.before.before
 
-  held : Told done (Count t.enum_told.given.0.0)
-  held = subst (Told done) t.enum_told.given.1 done.build-curves.ensures.told
+  held : Told done (Count t.in-Count.field-0)
+  held = subst (Told done) t.in-Count.is done.build_curves-built.ensures.told
 
   -- the part's own ordinates
   chosen_is : (wood : Wood)
@@ -58,7 +58,7 @@ module _ (t : tie.After-enum-told) where
   chosen_is earlywood = held.early_is
   chosen_is latewood = held.late_is
 
-part-reach-requires : tie.Need-part-reach-requires
+part-reach-requires : tie.Need-part_reach-requires
 part-reach-requires c κs = let h = held c.before.before in
     record {
       legal = h.legal;
@@ -66,30 +66,30 @@ part-reach-requires c κs = let h = held c.before.before in
       late_ordinates = record { long = search rules; bounded = late_bounded column_limit h };
     }
 
-returns : tie.Need-returns
+returns : tie.Need-returns-in-Refused
 returns c =
-    let d = c.before.before.before.before.before.before.before in
-    let a = (start d).args in
-    let l = d.build-curves.ensures in
-    let r = subst (Told d) c.before.built.given.1 l.told in (
-      reach_refused (beam d) (wood d) (coefs d) a.width (length a.num.now) (length a.den.now) r,
-      (l.numerators_are ∙ refused_numerators (beam d) _ _ a.num.now r, l.denominators_are),
+    let d = c in
+    let a = (start d.before.before.before.before.before).args in
+    let l = d.build_curves-built.ensures in
+    let r = subst (Told d.before.before.before.before.before) c.in-Refused.is l.told in (
+      reach_refused (beam d.before.before.before.before.before) (wood d.before.before.before.before.before) (coefs d.before.before.before.before.before) a.width (length a.num.now) (length a.den.now) r,
+      (l.numerators_are ∙ refused_numerators (beam d.before.before.before.before.before) _ _ a.num.now r, l.denominators_are),
     )
 
-returns-2 : tie.Need-returns-2
+returns-2 : tie.Need-returns-in-Count
 returns-2 c =
-    let t = c.before.before.before in
-    let d = done t in
+    let t = c in
+    let d = done t.before.before.before in
     let a = (start d).args in
-    let l = d.build-curves.ensures in
-    let f = (start d).fits.width in
+    let l = d.build_curves-built.ensures in
+    let f = (start d).ranges.width in
     let answers = reach_searched (beam d) (wood d) (coefs d) a.width (length a.num.now) (length a.den.now) column_limit _
-    (held t).is
-    (chosen_is t (wood d)) (simp to_z-of_z at c.part-reach.ensures) in
+    (held t.before.before.before).is
+    (chosen_is t.before.before.before (wood d)) (simp to_z-of_z at c.part_reach.ensures) in
     (answers, (l.numerators_are, l.denominators_are))
 
-pub reach-spec : {M : Type 1} → statement M
-reach-spec =
+pub reach_spec : {M : Type 1} → statement M
+reach_spec =
     tie.close (tie.spec (λ c. search rules) (λ c. search rules) (λ c. search rules) (λ c. search rules) (λ c. search rules)
     (λ c κs. search rules) (λ c. search rules) (λ c. search rules) (λ c. search rules) (λ c. search rules) part-reach-requires
     (λ c. search rules) (λ c. search rules) returns (λ c. search rules) (λ c. search rules) returns-2)

@@ -16,31 +16,31 @@ module _ (s : tie.Start) where
   break = get_or s.args.breaks.now s.args.i (pos 0)
 
   break-fits : SFits w32 break
-  break-fits = sfits_abs (omega (arith, s.pre.break.legal.size s.args.i s.pre.break.within))
+  break-fits = sfits_abs (omega (arith, s.requires.break.legal.size s.args.i s.requires.break.within))
 
   start_small : nat_abs (pos 256 *ℤ break) ≤ 2560000
-  start_small = abs_mul_le (pos 256) break 256 10000 (omega arith) (s.pre.break.legal.size s.args.i s.pre.break.within)
+  start_small = abs_mul_le (pos 256) break 256 10000 (omega arith) (s.requires.break.legal.size s.args.i s.requires.break.within)
 
   start_fits : SFits w32 (pos 256 *ℤ break)
   start_fits = sfits_abs (omega (arith, start_small))
 
   sum_fits : SFits w32 (pos 256 *ℤ break +ℤ pos s.args.u)
-  sum_fits = sfits_abs (omega (arith, start_small, s.pre.short, abs-add (pos 256 *ℤ break) (pos s.args.u)))
+  sum_fits = sfits_abs (omega (arith, start_small, s.requires.short, abs-add (pos 256 *ℤ break) (pos s.args.u)))
 
   offset-small : s.args.u < 2147483648
-  offset-small = omega (arith, s.pre.short)
+  offset-small = omega (arith, s.requires.short)
 
-add-result : tie.Need-overflow-add-result
-add-result c = let s = c.before in simp (to_z-of_z, to_z_pos w32 s.args.u (offset-small s), break-fits s, start_fits s) (sum_fits s)
+add-result : tie.Need-overflow_add-result
+add-result c = let s = c in simp (to_z-of_z, to_z_pos w32 s.args.u (offset-small s.before), break-fits s.before, start_fits s.before) (sum_fits s.before)
 
 returns : tie.Need-returns
 returns c =
-    let s = c.before in
-    let z : to_z w32 (of_z w32 (pos 256 *ℤ to_z w32 (of_z w32 (break s)))) +ℤ to_z w32 s.args.u ≡ pos 256 *ℤ break s +ℤ pos s.args.u =
-    simp (to_z-of_z, to_z_pos w32 s.args.u (offset-small s), break-fits s, start_fits s) in
-    ap (λ (z : ℤ). to_z w32 (of_z w32 z)) z ∙ to_z-of_z w32 _ (sum_fits s)
+    let s = c in
+    let z : to_z w32 (of_z w32 (pos 256 *ℤ to_z w32 (of_z w32 (break s.before)))) +ℤ to_z w32 s.args.u ≡ pos 256 *ℤ break s.before +ℤ pos s.args.u =
+    simp (to_z-of_z, to_z_pos w32 s.args.u (offset-small s.before), break-fits s.before, start_fits s.before) in
+    ap (λ (z : ℤ). to_z w32 (of_z w32 z)) z ∙ to_z-of_z w32 _ (sum_fits s.before)
 
-pub position-at-spec : {M : Type 1} → statement M
-position-at-spec =
+pub position_at_spec : {M : Type 1} → statement M
+position_at_spec =
     tie.close (tie.spec (λ c. search rules) (λ c. search rules)
     (λ c. let f = break-fits c.before in simp to_z-of_z (start_fits c.before)) (λ c. search rules) add-result returns)

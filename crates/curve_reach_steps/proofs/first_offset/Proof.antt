@@ -13,37 +13,37 @@ use Rattle.curve_reach_steps.proofs.Passing.{one_bounds, none-reaches, all_below
 use Rattle.curve_reach_steps.proofs.first_offset.Statement.{statement}
 use Rattle.curve_reach_steps.proofs.first_offset.Tie as tie
 
-module _ (c : tie.After-one-reaches) where
+module _ (c : tie.After-one_reaches) where
   abbrev start : tie.Start
   start = c.before
 
-  told : {b : Bool} → c.one-reaches.result ≡ b → let a = start.args in
+  told : {b : Bool} → c.one_reaches.result ≡ b → let a = start.args in
       found (first (suc a.p) (λ k. le_z a.target (get_or a.ordinates.now (a.c + k) (pos 0)))) ≡ b
-  told e = let f = start.fits.target in sym (simp to_z-of_z at c.one-reaches.ensures) ∙ e
+  told e = let f = start.ranges.target in sym (simp to_z-of_z at c.one_reaches.ensures) ∙ e
 
-step-through-requires : tie.Need-step-through-requires
+step-through-requires : tie.Need-step_through-requires
 step-through-requires c κs =
     let s = start c.before in
-    let f = s.fits.target in
+    let f = s.ranges.target in
     let a = s.args in
-    let bounded = s.pre.segment.columns.ordinates.bounded in
-    let small = one_bounds a.ordinates.now a.c a.p a.target bounded (told c.before c.if1.true) in
-    record { segment = s.pre.segment; end_within = s.pre.end_within; target_small = simp to_z-of_z small }
+    let bounded = s.requires.segment.columns.ordinates.bounded in
+    let small = one_bounds a.ordinates.now a.c a.p a.target bounded (told c.before c.if-one_reaches.true) in
+    record { segment = s.requires.segment; end_within = s.requires.end_within; target_small = simp to_z-of_z small }
 
-returns-2 : tie.Need-returns-2
+returns-2 : tie.Need-returns
 returns-2 c =
     let s = start c.before in
     let a = s.args in
-    let bounded = s.pre.segment.columns.ordinates.bounded in
-    let none = none-reaches a.ordinates.now a.c a.p a.target (told c.before c.if1.false) in
+    let bounded = s.requires.segment.columns.ordinates.bounded in
+    let none = none-reaches a.ordinates.now a.c a.p a.target (told c.before c.if-one_reaches.false) in
     record {
-      after = s.pre.start-within;
-      none_before = λ u h k l. all_below a.ordinates.now a.c a.p a.d u s.pre.segment.long
-          (omega (arith, s.pre.end_within)) bounded a.target none;
+      after = s.requires.start-within;
+      none_before = λ u h k l. all_below a.ordinates.now a.c a.p a.d u s.requires.segment.long
+          (omega (arith, s.requires.end_within)) bounded a.target none;
       there = λ h. absurd (omega arith);
     }
 
-pub first-offset-spec : {M : Type 1} → statement M
-first-offset-spec =
+pub first_offset_spec : {M : Type 1} → statement M
+first_offset_spec =
     tie.close (tie.spec (λ c κs. search rules) step-through-requires
-    (λ c. let f = (start c.before.before).fits.target in simp to_z-of_z at c.step_Through.ensures) returns-2)
+    (λ c. let f = (start c.before.before).ranges.target in simp to_z-of_z at c.step_through.ensures) returns-2)

@@ -12,19 +12,19 @@ use Rattle.curve_reach_steps.proofs.Rises.{steepest_none, steepest_more}
 use Rattle.curve_reach_steps.proofs.steepest.Statement.{statement}
 use Rattle.curve_reach_steps.proofs.steepest.Tie as tie
 
-abbrev invariant-loop : tie.invariant-loop
+abbrev invariant-loop : tie.invariant-loop-k
 invariant-loop ordinates c p rise₀ k₀ rise k = (k ≤ p) × Steepest ordinates c k rise
 
-abbrev decreases-loop : tie.decreases-loop
+abbrev decreases-loop : tie.decreases-loop-k
 decreases-loop ordinates c p rise₀ k₀ rise k = p - k
 
 -- the two ordinates fit their words
-module _ (c : tie.After-high invariant-loop decreases-loop) where
+module _ (c : tie.After-high-1 invariant-loop decreases-loop) where
   abbrev start : tie.Start invariant-loop decreases-loop
   start = c.before.before.before.before
 
   abbrev k : ℕ
-  k = c.before.before.before.loop.k
+  k = c.loop-k.k
 
   abbrev low : ℤ
   low = get_or start.args.ordinates.now (start.args.c + k) (pos 0)
@@ -33,12 +33,12 @@ module _ (c : tie.After-high invariant-loop decreases-loop) where
   high = get_or start.args.ordinates.now (start.args.c + k + 1) (pos 0)
 
   low_fits : SFits w32 low
-  low_fits = record { sfits = c.before.low.given }
+  low_fits = record { sfits = c.low-1.given }
 
   high_fits : SFits w32 high
-  high_fits = record { sfits = c.high.given }
+  high_fits = record { sfits = c.high-1.given }
 
-steeper-requires : tie.Need-steeper-requires invariant-loop decreases-loop
+steeper-requires : tie.Need-steeper-rise-requires invariant-loop decreases-loop
 steeper-requires c κs =
     let f = low_fits c in
     let g = high_fits c in
@@ -46,30 +46,30 @@ steeper-requires c κs =
     let g' = sfits_widen g in
     let bounded = (start c).requires.ordinates.bounded in
     simp to_z-of_z (record {
-      rise-small = c.before.before.before.loop.invariant.1.small;
+      rise-small = c.loop-k.invariant.1.small;
       low_small = bounded ((start c).args.c + k c);
       high_small = bounded ((start c).args.c + k c + 1);
     })
 
-loop-again : tie.Need-loop-preserved invariant-loop decreases-loop
+loop-again : tie.Need-loop-k-preserved invariant-loop decreases-loop
 loop-again c =
-    let b = c.before in
-    let f = low_fits b in
-    let g = high_fits b in
+    let b = c in
+    let f = low_fits b.before in
+    let g = high_fits b.before in
     let f' = sfits_widen f in
     let g' = sfits_widen g in
-    let left = simp to_z-of_z at c.steeper.ensures in
-    let before = b.before.before.before.loop.invariant.1 in
-    (omega arith, steepest_more _ (start b).args.c (k b) _ c.steeper.result before left.at-least left.small left.covers)
+    let left = simp to_z-of_z at c.steeper-rise.ensures in
+    let before = b.loop-k.invariant.1 in
+    (omega arith, steepest_more _ (start b.before).args.c (k b.before) _ c.steeper-rise.result before left.at-least left.small left.covers)
 
 returns : tie.Need-returns invariant-loop decreases-loop
 returns c =
-    let s = c.before.before in
-    let all : c.before.loop.k ≡ s.args.p = omega arith in
-    subst (λ k. Steepest s.args.ordinates.now s.args.c k c.before.loop.rise) all c.before.loop.invariant.1
+    let s = c in
+    let all : c.loop-k.k ≡ s.args.p = omega arith in
+    subst (λ k. Steepest s.args.ordinates.now s.args.c k c.loop-k.rise) all c.loop-k.invariant.1
 
-pub steepest-spec : {M : Type 1} → statement M
-steepest-spec =
+pub steepest_spec : {M : Type 1} → statement M
+steepest_spec =
     tie.close (tie.spec invariant-loop decreases-loop (λ c. (omega arith, steepest_none _ _)) (λ c. omega arith) (λ c. omega arith) (λ c. omega arith)
     (λ c. omega arith) (λ c. omega arith) (λ c. omega arith) (λ c. omega arith) (λ c. let f = low_fits c in simp to_z-of_z (sfits_widen f))
     (λ c. let f = high_fits c in simp to_z-of_z (sfits_widen f)) steeper-requires (λ c. omega arith) (λ c. omega arith) loop-again returns)

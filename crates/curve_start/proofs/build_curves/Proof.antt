@@ -24,71 +24,71 @@ module _ (s : tie.Start) where
   abbrev before : Lent
   before = lent s.args.num.now s.args.den.now s.args.early.now s.args.late.now
 
-returns : tie.Need-returns
-returns c = let s = c.before in leaves_unchanged (asked s) (before s) (first_short (asked s) (before s) c.if1.true) refl
+returns : tie.Need-returns-then-num-lt-TABLE_CELLS
+returns c = let s = c in leaves_unchanged (asked s.before) (before s.before) (first_short (asked s.before) (before s.before) c.if-num-lt-TABLE_CELLS.true) refl
 
-returns-2 : tie.Need-returns-2
+returns-2 : tie.Need-returns-then-den-lt-TABLE_CELLS
 returns-2 c =
-    let s = c.before.before in
-    leaves_unchanged (asked s) (before s) (second_short (asked s) (before s) c.before.if1.false c.if2.true) refl
+    let s = c in
+    leaves_unchanged (asked s.before.before) (before s.before.before) (second_short (asked s.before.before) (before s.before.before) c.if-num-lt-TABLE_CELLS.false c.if-den-lt-TABLE_CELLS.true) refl
 
 -- both weight buffers are long enough
-module _ (c : tie.Else2) where
+module _ (c : tie.Else-den-lt-TABLE_CELLS) where
   abbrev start : tie.Start
   start = c.before.before
 
   table-room : TableRoom (before start)
-  table-room = record { num_long = c.before.if1.false; den_long = c.if2.false }
+  table-room = record { num_long = c.if-num-lt-TABLE_CELLS.false; den_long = c.if-den-lt-TABLE_CELLS.false }
 
-returns-3 : tie.Need-returns-3
+returns-3 : tie.Need-returns-then-room-positions
 returns-3 c =
-    let e = c.before in
-    let s = start e in
-    leaves_unchanged (asked s) (before s) (third_short (asked s) (before s) (table-room e) c.if3.true) refl
+    let e = c in
+    let s = start e.before in
+    leaves_unchanged (asked s) (before s) (third_short (asked s) (before s) (table-room e.before) c.if-room-positions.true) refl
 
 -- the lists and the entries pass
-module _ (c : tie.After-enum-told) where
-  abbrev long : tie.Else3
-  long = c.before.before.before
+module _ (c : tie.In-Legal) where
+  abbrev long : tie.Else-room-positions
+  long = c.before.before
 
   abbrev entry : tie.Start
   entry = start long.before
 
   passes : legality (checked_of (asked entry)) ≡ Legal
-  passes = sym c.before.before.check.ensures ∙ c.enum_told.given.1
+  passes = sym c.check-checked.ensures ∙ c.in-Legal.is
 
-build-parts-requires : tie.Need-build-parts-requires
+build-parts-requires : tie.Need-build_parts-requires
 build-parts-requires c κs =
-    let t = c.before.before.before.before in
-    let s = entry t in
-    let legal = lists_legal (asked s) (passes t) in
+    let t = c in
+    let s = entry t.before.before.before.before in
+    let legal = lists_legal (asked s) (passes t.before.before.before.before) in
     let few = legal_column-count-high _ _ _ legal in
     record {
       legal = legal;
-      coefficients = coefficients_good (asked s) (passes t);
-      room = table-room (long t).before;
-      early_long = omega (arith, few, s.pre.early_long);
-      late_long = omega (arith, few, s.pre.late_long);
+      coefficients = coefficients_good (asked s) (passes t.before.before.before.before);
+      room = table-room (long t.before.before.before.before).before;
+      early_long = omega (arith, few, s.requires.early_long);
+      late_long = omega (arith, few, s.requires.late_long);
     }
 
-returns-4 : tie.Need-returns-4
+returns-4 : tie.Need-returns-in-Refused
 returns-4 c =
-    let k = c.before.before.before in
-    let e = k.before in
-    let s = start e.before in
-    let r = refused_refuses (checked_of (asked s)) (sym k.check.ensures ∙ c.before.checked.given.1) in
-    leaves_unchanged (asked s) (before s) (call_refused (asked s) (before s) (table-room e.before) e.if3.false r)
+    let k = c in
+    let e = k in
+    let s = start e.before.before.before in
+    let r = refused_refuses (checked_of (asked s)) (sym k.check-checked.ensures ∙ c.in-Refused.is) in
+    leaves_unchanged (asked s) (before s) (call_refused (asked s) (before s) (table-room e.before.before.before) e.if-room-positions.false r)
     (curve_checks (asked s).lists _ _ r)
 
-returns-5 : tie.Need-returns-5
+returns-5 : tie.Need-returns-in-Legal
 returns-5 c =
-    let p = c.before.before.before.before in
-    let t = p.before.before.before.before.before in
-    let s = entry t in
-    leaves_built (asked s) (before s) (table-room (long t).before) (long t).if3.false (passes t) p.build-parts.result
-    p.build-parts.ensures
+    let p = c in
+    let t = p in
+    let s = entry t.before.before.before.before.before.before.before.before.before in
+    leaves_built (asked s) (before s) (table-room (long t.before.before.before.before.before.before.before.before.before).before) (long t.before.before.before.before.before.before.before.before.before).if-room-positions.false (passes t.before.before.before.before.before.before.before.before.before) p.build_parts.result
+    p.build_parts.ensures
 
-pub build-curves-spec : {M : Type 1} → statement M
-build-curves-spec =
+pub build_curves_spec : {M : Type 1} → statement M
+build_curves_spec =
     tie.close (tie.spec returns returns-2 returns-3 (λ c κs. search rules) (λ c. search rules) (λ c. search rules) build-parts-requires
     returns-4 (λ c. search rules) (λ c. search rules) (λ c. search rules) (λ c. search rules) returns-5)

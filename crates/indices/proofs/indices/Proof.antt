@@ -65,27 +65,27 @@ module _ (s : tie.Start) where
       → Ends lists (wood_of s.args.wood) widths outcome (Refused 1 place) num den values indices num den values indices
   unchanged = ends_unchanged lists (wood_of s.args.wood) widths num den values indices
 
-returns-2 : tie.Need-returns-2
-returns-2 c = let s = c.before.before in ended (unchanged s (second_short (given s) c.before.if1.false c.if2.true))
+returns-2 : tie.Need-returns-then-den-lt-TABLE_CELLS
+returns-2 c = let s = c in ended (unchanged s.before.before (second_short (given s.before.before) c.if-num-lt-TABLE_CELLS.false c.if-den-lt-TABLE_CELLS.true))
 
-returns-3 : tie.Need-returns-3
+returns-3 : tie.Need-returns-then-values-widths
 returns-3 c =
-    let s = c.before.before.before in
-    ended (unchanged s (third_short (given s) c.before.before.if1.false c.before.if2.false c.if3.true))
+    let s = c in
+    ended (unchanged s.before.before.before (third_short (given s.before.before.before) c.if-num-lt-TABLE_CELLS.false c.if-den-lt-TABLE_CELLS.false c.if-values-widths.true))
 
-returns-4 : tie.Need-returns-4
+returns-4 : tie.Need-returns-then-indices-widths
 returns-4 c =
-    let s = c.before.before.before.before in
-    let first = c.before.before.before.if1.false in
-    ended (unchanged s (fourth_short (given s) first c.before.before.if2.false c.before.if3.false c.if4.true))
+    let s = c in
+    let first = c.if-num-lt-TABLE_CELLS.false in
+    ended (unchanged s.before.before.before.before (fourth_short (given s.before.before.before.before) first c.if-den-lt-TABLE_CELLS.false c.if-values-widths.false c.if-indices-widths.true))
 
 -- the part of the array that is handed on
 room : {r : ℕ} (n : ℕ) → r ≡ rings_taken n → length (take r (replicate 4097 (pos 0))) ≡ r
 room {r} n e = length-take-le r (replicate 4097 (pos 0)) (omega arith)
 
 -- the curve call
-module _ (k : tie.After-read-rings) where
-  abbrev long : tie.Else4
+module _ (k : tie.After-read_rings-read) where
+  abbrev long : tie.Else-indices-widths
   long = k.before.before.before.before.before.before
 
   abbrev start : tie.Start
@@ -94,101 +94,101 @@ module _ (k : tie.After-read-rings) where
   abbrev at : List ℤ → Outcome CurveResult
   at p = curve_outcome (lists start) start.args.coefs.now p (length (num start)) (length (den start)) (length (values start))
 
-  abbrev taken : tie.After-rings-taken
+  abbrev taken : tie.After-rings_taken-n
   taken = k.before.before.before.before.before
 
   abbrev positions : List ℤ
   positions = word_positions start.args.first (rings_taken (length (widths start)))
 
   positions_are :
-      word_positions (to_z w32 (of_z w32 start.args.first)) (length (take taken.rings-taken.result (replicate 4097 (pos 0)))) ≡ positions
+      word_positions (to_z w32 (of_z w32 start.args.first)) (length (take taken.rings_taken-n.result (replicate 4097 (pos 0)))) ≡ positions
   positions_are =
-      ap₂ word_positions (to_z-of_z w32 start.args.first start.fits.first)
-      (room _ taken.rings-taken.ensures ∙ taken.rings-taken.ensures)
+      ap₂ word_positions (to_z-of_z w32 start.args.first start.ranges.first)
+      (room _ taken.rings_taken-n.ensures ∙ taken.rings_taken-n.ensures)
 
   first_long : table_cells ≤ length (num start)
-  first_long = long.before.before.before.if1.left
+  first_long = long.if-num-lt-TABLE_CELLS.false
 
   second_long : table_cells ≤ length (den start)
-  second_long = long.before.before.if2.left
+  second_long = long.if-den-lt-TABLE_CELLS.false
 
   same : at positions ≡ outcome start
-  same = handed_on (given start) first_long second_long long.before.if3.left long.if4.left
+  same = handed_on (given start) first_long second_long long.if-values-widths.false long.if-indices-widths.false
 
   -- the curve call's end at the positions that were handed on is the outcome's
-  read_is : at (word_positions (to_z w32 (of_z w32 start.args.first)) (length (take taken.rings-taken.result (replicate 4097 (pos 0)))))
+  read_is : at (word_positions (to_z w32 (of_z w32 start.args.first)) (length (take taken.rings_taken-n.result (replicate 4097 (pos 0)))))
       ≡ outcome start
   read_is = ap at positions_are ∙ same
 
-  answers_are : reply k.read-rings.result ≡ returned (outcome start)
-  answers_are = k.read-rings.ensures.answers ∙ ap returned read_is
+  answers_are : reply k.read_rings-read.result ≡ returned (outcome start)
+  answers_are = k.read_rings-read.ensures.answers ∙ ap returned read_is
 
   abbrev num_now : List ℤ
-  num_now = k.read-rings.last.1.1.1.1.1.1.0
+  num_now = k.read_rings-read.new.num
 
   abbrev den_now : List ℤ
-  den_now = k.read-rings.last.1.1.1.1.1.1.1.0
+  den_now = k.read_rings-read.new.den
 
   abbrev values_now : List ℤ
-  values_now = k.read-rings.last.1.1.1.1.1.1.1.1.0
+  values_now = k.read_rings-read.new.values
 
   numerators_are : num_now ≡ curve_numerators (lists start) (outcome start) (num start)
-  numerators_are = k.read-rings.ensures.numerators_are ∙ ap (λ o. curve_numerators (lists start) o (num start)) read_is
+  numerators_are = k.read_rings-read.ensures.numerators_are ∙ ap (λ o. curve_numerators (lists start) o (num start)) read_is
 
   denominators_are : den_now ≡ curve_denominators (lists start) (outcome start) (den start)
-  denominators_are = k.read-rings.ensures.denominators_are ∙ ap (λ o. curve_denominators (lists start) o (den start)) read_is
+  denominators_are = k.read_rings-read.ensures.denominators_are ∙ ap (λ o. curve_denominators (lists start) o (den start)) read_is
 
   values_are : values_now ≡ values_after (outcome start) (values start)
-  values_are = k.read-rings.ensures.values_are ∙ ap (λ o. values_after o (values start)) read_is
+  values_are = k.read_rings-read.ensures.values_are ∙ ap (λ o. values_after o (values start)) read_is
 
 -- it answered
 abbrev value_count : CurveResult → ℕ
 value_count r = length r.values
 
-module _ (k : tie.After-read-rings) {n : ℕ} (h : Counted value_count (outcome (start k)) n) where
+module _ (k : tie.After-read_rings-read) {n : ℕ} (h : Counted value_count (outcome (start k)) n) where
   counted : (length (widths (start k)) ≤ position_limit) × (length h.result.values ≡ length (widths (start k)))
   counted = rings_answered (given (start k)) (same k ∙ h.is)
 
   room_for_pairs : 2 * length (widths (start k)) ≤ length (values (start k))
-  room_for_pairs = half_le _ _ (long k).before.if3.left
+  room_for_pairs = half_le _ _ (long k).if-values-widths.false
 
   values_length_lem : length (values_now k) ≡ length (values (start k))
   values_length_lem =
       ap length (values_are k ∙ ap (λ o. values_after o (values (start k))) h.is)
       ∙ values-kept h.result (values (start k)) (omega (arith, counted.1, room_for_pairs))
 
-result-of : (t : tie.After-enum-told) → let k = t.before.before.before.before.before.before in Counted value_count (outcome (start k)) t.enum_told.given.0.0
-result-of t = let k = t.before.before.before.before.before.before in count_inverts value_count _ (ap reply (sym t.enum_told.given.1) ∙ answers_are k)
+result-of : (t : tie.In-Count) → let k = t in Counted value_count (outcome (start k.before.before.before.before.before)) t.in-Count.field-0
+result-of t = let k = t in count_inverts value_count _ (ap reply (sym t.in-Count.is) ∙ answers_are k.before.before.before.before.before)
 
-index-rings-requires : tie.Need-index-rings-requires
+index-rings-requires : tie.Need-index_rings-requires
 index-rings-requires c κs =
-    let t = c.before.before in
-    let k = t.before.before.before.before.before.before in
-    let h = result-of t in
-    record { valued = omega (arith, values_length_lem k h, room_for_pairs k h); room = (long k).if4.false; few = (counted k h).0 }
+    let t = c in
+    let k = t in
+    let h = result-of t.before in
+    record { valued = omega (arith, values_length_lem k.before.before.before.before.before.before h, room_for_pairs k.before.before.before.before.before.before h); room = (long k.before.before.before.before.before.before).if-indices-widths.false; few = (counted k.before.before.before.before.before.before h).0 }
 
-returns-5 : tie.Need-returns-5
+returns-5 : tie.Need-returns-in-Refused
 returns-5 c =
-    let k = c.before.before.before.before.before.before.before in
-    let s = start k in
-    let refused = refused_inverts value_count (outcome s) (ap reply (sym c.before.read.given.1) ∙ answers_are k) in
+    let k = c in
+    let s = start k.before.before.before.before.before in
+    let refused = refused_inverts value_count (outcome s) (ap reply (sym c.in-Refused.is) ∙ answers_are k.before.before.before.before.before) in
     ended (ends_refused (lists s) (wood_of s.args.wood) (widths s) (num s) (den s) (values s) (indices s)
-    refused (numerators_are k) (denominators_are k) (values_are k))
+    refused (numerators_are k.before.before.before.before.before) (denominators_are k.before.before.before.before.before) (values_are k.before.before.before.before.before))
 
-returns-6 : tie.Need-returns-6
+returns-6 : tie.Need-returns-in-Count
 returns-6 c =
-    let x = c.before in
-    let t = x.before.before.before in
-    let k = t.before.before.before.before.before.before in
-    let s = start k in
-    let h = result-of t in
+    let x = c in
+    let t = x in
+    let k = t in
+    let s = start k.before.before.before.before.before.before.before.before in
+    let h = result-of t.before.before.before in
     ended (ends-indexed (lists s) (wood_of s.args.wood) (widths s) (num s) (den s) (values s) (indices s)
-    h.is (counted k h).1 (numerators_are k) (denominators_are k) (values_are k) x.index-rings.ensures)
+    h.is (counted k.before.before.before.before.before.before.before.before h).1 (numerators_are k.before.before.before.before.before.before.before.before) (denominators_are k.before.before.before.before.before.before.before.before) (values_are k.before.before.before.before.before.before.before.before) x.index_rings.ensures)
 
-pub indices-spec : {M : Type 1} → statement M
-indices-spec =
-    tie.close (tie.spec (λ c. let s = c.before in ended (unchanged s (first_short (given s) c.if1.true))) returns-2 returns-3
-    returns-4 (λ c κs. search rules) (λ c. search rules) (λ c. sym (room _ c.before.rings-taken.ensures))
-    (λ c κs. omega (arith, room _ c.before.before.before.before.rings-taken.ensures)) (λ c. search rules) (λ c. search rules)
+pub indices_spec : {M : Type 1} → statement M
+indices_spec =
+    tie.close (tie.spec (λ c. let s = c in ended (unchanged s.before (first_short (given s.before) c.if-num-lt-TABLE_CELLS.true))) returns-2 returns-3
+    returns-4 (λ c κs. search rules) (λ c. search rules) (λ c. sym (room _ c.rings_taken-n.ensures))
+    (λ c κs. omega (arith, room _ c.rings_taken-n.ensures)) (λ c. search rules) (λ c. search rules)
     index-rings-requires (λ c. search rules) (λ c. search rules) (λ c. search rules) returns-5 (λ c. search rules) (λ c. search rules)
     (λ c. search rules) (λ c. search rules) returns-6)

@@ -7,20 +7,20 @@ use Rattle.indices.proofs.Words.{nearest-below, nearest-above, nearest-inside, w
 use Rattle.indices.proofs.nearest_word.Statement.{statement}
 use Rattle.indices.proofs.nearest_word.Tie as tie
 
-returns-2 : tie.Need-returns-2
-returns-2 c = let f = c.before.before.ranges.z in nearest-above _ (simp to_z-of_z at c.before.if1.false) (simp to_z-of_z at c.if2.true)
+returns-2 : tie.Need-returns-then-z-gt-WORD_GREATEST
+returns-2 c = let f = c.ranges.z in nearest-above _ (simp to_z-of_z at c.if-z-lt-WORD_LEAST.false) (simp to_z-of_z at c.if-z-gt-WORD_GREATEST.true)
 
-module _ (c : tie.Else2) where
-  z_fits : SFits w32 c.before.before.args.z
-  z_fits = let f = c.before.before.ranges.z in word_fits _ (simp to_z-of_z at c.before.if1.false) (simp to_z-of_z at c.if2.false)
+module _ (c : tie.Else-z-gt-WORD_GREATEST) where
+  z_fits : SFits w32 c.args.z
+  z_fits = let f = c.ranges.z in word_fits _ (simp to_z-of_z at c.if-z-lt-WORD_LEAST.false) (simp to_z-of_z at c.if-z-gt-WORD_GREATEST.false)
 
-returns-3 : tie.Need-returns-3
+returns-3 : tie.Need-returns
 returns-3 c =
-    let f = c.before.before.ranges.z in
+    let f = c.ranges.z in
     let g = z_fits c in
-    simp to_z-of_z (nearest-inside _ (simp to_z-of_z at c.before.if1.false) (simp to_z-of_z at c.if2.false))
+    simp to_z-of_z (nearest-inside _ (simp to_z-of_z at c.if-z-lt-WORD_LEAST.false) (simp to_z-of_z at c.if-z-gt-WORD_GREATEST.false))
 
-pub nearest-word-spec : {M : Type 1} → statement M
-nearest-word-spec =
-    tie.close (tie.spec (λ c. search rules) (λ c. let f = c.before.ranges.z in nearest-below _ (simp to_z-of_z at c.if1.true))
-    (λ c. search rules) returns-2 (λ c. let f = c.before.before.ranges.z in simp to_z-of_z (z_fits c)) returns-3)
+pub nearest_word_spec : {M : Type 1} → statement M
+nearest_word_spec =
+    tie.close (tie.spec (λ c. search rules) (λ c. let f = c.ranges.z in nearest-below _ (simp to_z-of_z at c.if-z-lt-WORD_LEAST.true))
+    (λ c. search rules) returns-2 (λ c. let f = c.ranges.z in simp to_z-of_z (z_fits c)) returns-3)

@@ -14,12 +14,12 @@ use Rattle.indices.proofs.read_rings.Tie as tie
 
 returns : tie.Need-returns
 returns c =
-    let k = c.before.before.before in
-    let f = c.before.before.before.before.before.before.before.before.before in
-    let a = f.before.before.args in
+    let k = c in
+    let f = c in
+    let a = f.args in
     let e = k.curve.ensures in
-    let fits = to_z-of_z w32 a.first f.before.before.ranges.first in
-    let p = f.fill-positions.ensures ∙ ap (λ (z : ℤ). word_positions z (length a.positions.now)) fits in
+    let fits = to_z-of_z w32 a.first f.ranges.first in
+    let p = f.fill_positions.ensures ∙ ap (λ (z : ℤ). word_positions z (length a.positions.now)) fits in
     let s = space a.breaks.now a.degrees.now a.orders.now in
     let end : List ℤ → CurveEnd = λ (l : List ℤ). curve_end s a.coefs.now l a.num.now a.den.now a.values.now in
     record {
@@ -29,7 +29,7 @@ returns c =
       values_are = e.1.1.1 ∙ ap (λ (l : List ℤ). (end l).values) p;
     }
 
-pub read-rings-spec : {M : Type 1} → statement M
-read-rings-spec =
+pub read_rings_spec : {M : Type 1} → statement M
+read_rings_spec =
     tie.close (tie.spec (λ c κs. search rules) (λ c κs. search rules) (λ c. search rules) (λ c. search rules) (λ c. search rules)
     (λ c. search rules) returns)

@@ -13,32 +13,32 @@ use Rattle.theorems_indices.proofs.Ring.{refused_below, refused_above, absent-pa
 use Rattle.indices_rings.proofs.ring_is_bad.Statement.{statement}
 use Rattle.indices_rings.proofs.ring_is_bad.Tie as tie
 
-width_fits : (c : tie.After-width) → SFits w32 (get_or c.before.args.widths.now c.before.args.i (pos 0))
-width_fits c = record { sfits = c.width.given }
+width_fits : (c : tie.After-width-1) → SFits w32 (get_or c.args.widths.now c.args.i (pos 0))
+width_fits c = record { sfits = c.width-1.given }
 
-returns : tie.Need-returns
+returns : tie.Need-returns-then-width-lt0
 unfolding bad_cell
-returns c = let f = width_fits c.before in refused_below _ _ (simp to_z-of_z at c.if1.true)
+returns c = let f = width_fits c.before in refused_below _ _ (simp to_z-of_z at c.if-width-lt0.true)
 
-returns-2 : tie.Need-returns-2
+returns-2 : tie.Need-returns-then-width-gt-WIDTH_LIMIT
 unfolding bad_cell
-returns-2 c = let f = width_fits c.before.before in refused_above _ _ (simp to_z-of_z at c.before.if1.false) (simp to_z-of_z at c.if2.true)
+returns-2 c = let f = width_fits c.before.before in refused_above _ _ (simp to_z-of_z at c.if-width-lt0.false) (simp to_z-of_z at c.if-width-gt-WIDTH_LIMIT.true)
 
-returns-3 : tie.Need-returns-3
+returns-3 : tie.Need-returns-then-width-eq0
 unfolding bad_cell
-returns-3 c = let f = width_fits c.before.before.before in absent-passes _ _ (of_z_inj w32 _ (pos 0) f (sfits_nat 0 (omega arith)) c.if3.true)
+returns-3 c = let f = width_fits c.before.before.before in absent-passes _ _ (of_z_inj w32 _ (pos 0) f (sfits_nat 0 (omega arith)) c.if-width-eq0.true)
 
-returns-4 : tie.Need-returns-4
+returns-4 : tie.Need-returns
 unfolding bad_cell
 returns-4 c =
-    let e = c.before in
-    let a = e.before.before.before in
-    let f = width_fits a in
-    let g : SFits w32 (get_or a.before.args.values.now (2 * a.before.args.i + a.before.args.offset) (pos 0)) = record { sfits = c.value.given } in
-    simp to_z-of_z (present_by_value _ _ (simp to_z-of_z at e.before.before.if1.false) (simp to_z-of_z at e.before.if2.false)
-    (λ z. e.if3.false (ap (of_z w32) z)))
+    let e = c in
+    let a = e in
+    let f = width_fits a.before.before.before.before in
+    let g : SFits w32 (get_or a.args.values.now (2 * a.args.i + a.args.offset) (pos 0)) = record { sfits = c.value-1.given } in
+    simp to_z-of_z (present_by_value _ _ (simp to_z-of_z at e.if-width-lt0.false) (simp to_z-of_z at e.if-width-gt-WIDTH_LIMIT.false)
+    (λ z. e.if-width-eq0.false (ap (of_z w32) z)))
 
-pub ring-is-bad-spec : {M : Type 1} → statement M
-ring-is-bad-spec =
+pub ring_is_bad_spec : {M : Type 1} → statement M
+ring_is_bad_spec =
     tie.close (tie.spec (λ c. search rules) (λ c. search rules) returns returns-2 returns-3 (λ c. search rules) (λ c. search rules)
     (λ c. search rules) (λ c. search rules) returns-4)

@@ -20,41 +20,41 @@ record Writing (widths values : List ℤ) (offset : ℕ) (before indices : List 
   kept : length indices ≡ length before
   are : indices ≡ tab i (cell_index widths values offset) ++ drop i before
 
-abbrev invariant-loop : tie.invariant-loop
+abbrev invariant-loop : tie.invariant-loop-i
 invariant-loop widths values offset indices₀ i₀ indices i = Writing widths values offset indices₀ indices i
 
-abbrev decreases-loop : tie.decreases-loop
+abbrev decreases-loop : tie.decreases-loop-i
 decreases-loop widths values offset indices₀ i₀ indices i = length widths - i
 
-index-requires : tie.Need-index-requires invariant-loop decreases-loop
+index-requires : tie.Need-index-z-requires invariant-loop decreases-loop
 index-requires c κs = record {
   ring = record { within = omega arith; valued = omega arith };
-  good = c.before.before.requires.good c.before.loop.i (omega arith);
+  good = c.requires.good c.loop-i.i (omega arith);
 }
 
-loop-again : tie.Need-loop-preserved invariant-loop decreases-loop
+loop-again : tie.Need-loop-i-preserved invariant-loop decreases-loop
 loop-again c =
-    let l = c.before.before in
-    let a = l.before.args in
-    let i = l.loop.i in
-    let r = c.index.result in
+    let l = c in
+    let a = l.args in
+    let i = l.loop-i.i in
+    let r = c.index-z.result in
     record {
       within = omega arith;
-      kept = length-set l.loop.indices i (to_z w64 (of_z w64 r)) ∙ l.loop.invariant.kept;
+      kept = length-set l.loop-i.indices i (to_z w64 (of_z w64 r)) ∙ l.loop-i.invariant.kept;
       are =
-          ap₂ (λ (t : List ℤ) (v : ℤ). set t i v) l.loop.invariant.are (to_z-of_z w64 r (record { sfits = c.index.type-inv }) ∙ c.index.ensures)
+          ap₂ (λ (t : List ℤ) (v : ℤ). set t i v) l.loop-i.invariant.are (to_z-of_z w64 r (record { sfits = c.index-z.type_inv }) ∙ c.index-z.ensures)
           ∙ tab_more (cell_index a.widths.now a.values.now a.offset) i a.indices.now (omega arith);
     }
 
 returns : tie.Need-returns invariant-loop decreases-loop
 returns c =
-    let l = c.before in
-    let a = l.before.args in
-    l.loop.invariant.are
+    let l = c in
+    let a = l.args in
+    l.loop-i.invariant.are
     ∙ ap (λ (k : ℕ). tab k (cell_index a.widths.now a.values.now a.offset) ++ drop k a.indices.now)
-    (let e : l.loop.i ≡ length a.widths.now = omega arith in e)
+    (let e : l.loop-i.i ≡ length a.widths.now = omega arith in e)
 
-pub write-indices-spec : {M : Type 1} → statement M
-write-indices-spec =
+pub write_indices_spec : {M : Type 1} → statement M
+write_indices_spec =
     tie.close (tie.spec invariant-loop decreases-loop (λ c. record { within = omega arith; kept = omega arith; are = tab-none _ _ }) index-requires
-    (λ c. omega arith) (λ c. omega arith) (λ c. omega arith) (λ c. omega arith) loop-again (λ c. c.before.loop.invariant.kept) returns)
+    (λ c. omega arith) (λ c. omega arith) (λ c. omega arith) (λ c. omega arith) loop-again (λ c. c.loop-i.invariant.kept) returns)

@@ -39,98 +39,98 @@ module _ {s : Space} {n : ℕ} {r : Answer} {num den coef_num coef_den num' den'
       let t = subst (λ y. BeamEnds s n y r num den coef_num coef_den num' den' coef_num' coef_den') (sym e) b in
       (t.answers, (t.numerators_are, (t.denominators_are, (t.coefficient-numerators_are, t.coefficient-denominators_are))))
 
-returns : tie.Need-returns
-returns c = let s = c.before in told (recovery_first-short (lists s) _ _ _ _ _ c.if1.true) (beam_unchanged (lists s) _ refl)
+returns : tie.Need-returns-then-num-lt-TABLE_CELLS
+returns c = let s = c in told (recovery_first-short (lists s.before) _ _ _ _ _ c.if-num-lt-TABLE_CELLS.true) (beam_unchanged (lists s.before) _ refl)
 
-returns-2 : tie.Need-returns-2
+returns-2 : tie.Need-returns-then-den-lt-TABLE_CELLS
 returns-2 c =
-    let s = c.before.before in
-    told (recovery_second-short (lists s) _ _ _ _ _ c.before.if1.false c.if2.true) (beam_unchanged (lists s) _ refl)
+    let s = c in
+    told (recovery_second-short (lists s.before.before) _ _ _ _ _ c.if-num-lt-TABLE_CELLS.false c.if-den-lt-TABLE_CELLS.true) (beam_unchanged (lists s.before.before) _ refl)
 
-returns-3 : tie.Need-returns-3
+returns-3 : tie.Need-returns-then-coef_num-ordinates
 returns-3 c =
-    let b = c.before in
-    let s = b.before.before in
-    told (recovery_third_short (lists s) _ _ _ _ _ b.before.if1.false b.if2.false c.if3.true) (beam_unchanged (lists s) _ refl)
+    let b = c in
+    let s = b in
+    told (recovery_third_short (lists s.before.before.before) _ _ _ _ _ b.if-num-lt-TABLE_CELLS.false b.if-den-lt-TABLE_CELLS.false c.if-coef_num-ordinates.true) (beam_unchanged (lists s.before.before.before) _ refl)
 
-returns-4 : tie.Need-returns-4
+returns-4 : tie.Need-returns-then-coef_den-ordinates
 returns-4 c =
-    let b = c.before.before in
-    let s = b.before.before in
-    told (recovery_fourth_short (lists s) _ _ _ _ _ b.before.if1.false b.if2.false c.before.if3.false c.if4.true) (beam_unchanged (lists s) _ refl)
+    let b = c in
+    let s = b in
+    told (recovery_fourth_short (lists s.before.before.before.before) _ _ _ _ _ b.if-num-lt-TABLE_CELLS.false b.if-den-lt-TABLE_CELLS.false c.if-coef_num-ordinates.false c.if-coef_den-ordinates.true) (beam_unchanged (lists s.before.before.before.before) _ refl)
 
 -- all four buffers are long enough
-module _ (c : tie.Else4) where
+module _ (c : tie.Else-coef_den-ordinates) where
   abbrev begun : tie.Start
   begun = c.before.before.before.before
 
   first_long : table_cells ≤ length begun.args.num.now
-  first_long = c.before.before.before.if1.false
+  first_long = c.if-num-lt-TABLE_CELLS.false
 
   second_long : table_cells ≤ length begun.args.den.now
-  second_long = c.before.before.if2.false
+  second_long = c.if-den-lt-TABLE_CELLS.false
 
-  third_long : length begun.args.ordinates.now ≤ length begun.args.coef-num.now
-  third_long = c.before.if3.false
+  third_long : length begun.args.ordinates.now ≤ length begun.args.coef_num.now
+  third_long = c.if-coef_num-ordinates.false
 
-  fourth_long : length begun.args.ordinates.now ≤ length begun.args.coef-den.now
-  fourth_long = c.if4.false
+  fourth_long : length begun.args.ordinates.now ≤ length begun.args.coef_den.now
+  fourth_long = c.if-coef_den-ordinates.false
 
-legal : (c : tie.After-enum-told) → let a = (begun c.before.before.before).args in ListsLegal a.breaks.now a.degrees.now a.orders.now
-legal c = legality_legal _ _ _ (sym c.before.before.check.ensures ∙ c.enum_told.given.1)
+legal : (c : tie.In-Legal) → let a = (begun c.before.before).args in ListsLegal a.breaks.now a.degrees.now a.orders.now
+legal c = legality_legal _ _ _ (sym c.check-lists.ensures ∙ c.in-Legal.is)
 
 -- the check of the ordinates, of the whole space
-entries-told : (c : tie.After-check-ordinates) → let s = begun c.before.before.before.before in c.check-ordinates.result ≡ legality (ordinates_checked (lists s) s.args.ordinates.now)
-entries-told c = let a = (begun c.before.before.before.before).args in c.check-ordinates.ensures
+entries-told : (c : tie.After-check_ordinates-entries) → let s = begun c.before.before.before in c.check_ordinates-entries.result ≡ legality (ordinates_checked (lists s) s.args.ordinates.now)
+entries-told c = let a = (begun c.before.before.before).args in c.check_ordinates-entries.ensures
     ∙ ap legality (ordinates_partial a.breaks.now a.degrees.now a.orders.now a.ordinates.now)
 
-entries-pass : (c : tie.After-enum-told2) → let b = c.before.before.before.before.before.before in let s = begun b in ordinates_checked (lists s) s.args.ordinates.now ≡ answer tt
-entries-pass c = (legal_answers _ (sym (entries-told c.before.before) ∙ c.enum-told2.given.1)).is
+entries-pass : (c : tie.In-Legal-entries) → let b = c in let s = begun b.before.before.before.before in ordinates_checked (lists s) s.args.ordinates.now ≡ answer tt
+entries-pass c = (legal_answers _ (sym (entries-told c.before) ∙ c.in-Legal-entries.is)).is
 
-recover-parts-requires : tie.Need-recover-parts-requires
+recover-parts-requires : tie.Need-recover_parts-requires
 recover-parts-requires c κs =
-    let t = c.before.before.before.before in
-    let l = t.before.before.before in
-    let b = l.before.before.before in
-    let o = ordinates_legal (lists (begun b)) (begun b).args.ordinates.now (entries-pass t) in
+    let t = c in
+    let l = t in
+    let b = l in
+    let o = ordinates_legal (lists (begun b.before.before.before.before.before.before.before.before)) (begun b.before.before.before.before.before.before.before.before).args.ordinates.now (entries-pass t.before.before.before.before) in
     record {
-      legal = legal l;
-      room = record { num_long = first_long b; den_long = second_long b };
+      legal = legal l.before.before.before.before.before.before;
+      room = record { num_long = first_long b.before.before.before.before.before.before.before.before; den_long = second_long b.before.before.before.before.before.before.before.before };
       given = record { count = o.0; fit = o.1 };
-      coef_num_long = third_long b;
-      coef_den_long = fourth_long b;
+      coef_num_long = third_long b.before.before.before.before.before.before.before.before;
+      coef_den_long = fourth_long b.before.before.before.before.before.before.before.before;
     }
 
-returns-5 : tie.Need-returns-5
+returns-5 : tie.Need-returns-in-Refused
 returns-5 c =
-    let k = c.before.before.before in
-    let b = k.before in
-    let s = begun b in
-    let r = refused_refuses (checked (lists s)) (sym k.check.ensures ∙ c.before.lists.given.1) in
-    told (recovery_lists_refused (lists s) _ _ _ _ _ (first_long b) (second_long b) (third_long b) (fourth_long b) r) (beam_unchanged (lists s) _ (lists_keep (lists s) r))
+    let k = c in
+    let b = k in
+    let s = begun b.before.before in
+    let r = refused_refuses (checked (lists s)) (sym k.check-lists.ensures ∙ c.in-Refused.is) in
+    told (recovery_lists_refused (lists s) _ _ _ _ _ (first_long b.before.before) (second_long b.before.before) (third_long b.before.before) (fourth_long b.before.before) r) (beam_unchanged (lists s) _ (lists_keep (lists s) r))
 
-returns-6 : tie.Need-returns-6
+returns-6 : tie.Need-returns-in-Refused-entries
 returns-6 c =
-    let k = c.before.before.before in
-    let l = k.before in
-    let b = l.before.before.before in
-    let s = begun b in
-    let r = refused_refuses (ordinates_checked (lists s) s.args.ordinates.now) (sym (entries-told k) ∙ c.before.entries.given.1) in
-    told (recovery_ordinates_refused (lists s) _ _ _ _ _ (first_long b) (second_long b) (third_long b) (fourth_long b) (legal_checked _ _ _ (legal l)) r)
+    let k = c in
+    let l = k in
+    let b = l in
+    let s = begun b.before.before.before.before in
+    let r = refused_refuses (ordinates_checked (lists s) s.args.ordinates.now) (sym (entries-told k.before) ∙ c.in-Refused-entries.is) in
+    told (recovery_ordinates_refused (lists s) _ _ _ _ _ (first_long b.before.before.before.before) (second_long b.before.before.before.before) (third_long b.before.before.before.before) (fourth_long b.before.before.before.before) (legal_checked _ _ _ (legal l.before.before)) r)
     (beam_unchanged (lists s) _ (ordinates-keep (lists s) s.args.ordinates.now r))
 
-returns-7 : tie.Need-returns-7
+returns-7 : tie.Need-returns-in-Legal-entries
 returns-7 c =
-    let p = c.before.before.before.before in
-    let t = p.before.before.before.before.before in
-    let l = t.before.before.before in
-    let b = l.before.before.before in
-    let s = begun b in
-    let w = recovery_legal (lists s) _ _ _ _ _ (first_long b) (second_long b) (third_long b) (fourth_long b) (legal_checked _ _ _ (legal l)) (entries-pass t) in
-    told {s = lists s} w p.recover-parts.ensures
+    let p = c in
+    let t = p in
+    let l = t in
+    let b = l in
+    let s = begun b.before.before.before.before.before.before.before.before.before.before.before.before.before in
+    let w = recovery_legal (lists s) _ _ _ _ _ (first_long b.before.before.before.before.before.before.before.before.before.before.before.before.before) (second_long b.before.before.before.before.before.before.before.before.before.before.before.before.before) (third_long b.before.before.before.before.before.before.before.before.before.before.before.before.before) (fourth_long b.before.before.before.before.before.before.before.before.before.before.before.before.before) (legal_checked _ _ _ (legal l.before.before.before.before.before.before.before.before.before.before.before)) (entries-pass t.before.before.before.before.before.before.before.before.before) in
+    told {s = lists s} w p.recover_parts.ensures
 
-pub coefficients-spec : {M : Type 1} → statement M
-coefficients-spec =
+pub coefficients_spec : {M : Type 1} → statement M
+coefficients_spec =
     tie.close (tie.spec returns returns-2 returns-3 returns-4 (λ c κs. search rules) (λ c. search rules) (λ c. search rules)
     (λ c κs. ((legal c).few, (legal c).degrees_legal)) (λ c. search rules) (λ c. search rules) recover-parts-requires returns-5 returns-6
     (λ c. search rules) (λ c. search rules) (λ c. search rules) (λ c. search rules) returns-7)

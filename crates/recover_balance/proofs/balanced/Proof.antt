@@ -36,13 +36,13 @@ record Inv (js cs : Fractions) (rows : ℕ) (sum : Fraction) (i : ℕ) : Type 0 
   lowest : sum ≡ fraction (value sum)
   state : (j : ℕ) (qs ps : List ℚ) → js ≡ fractions qs → cs ≡ fractions ps → jump_sum j qs ps i ≡ answer (value sum)
 
-abbrev invariant-loop : tie.invariant-loop
+abbrev invariant-loop : tie.invariant-loop-i
 invariant-loop rows js cs sum₀ i₀ sum i = Inv js cs rows sum i
 
-abbrev decreases-loop : tie.decreases-loop
+abbrev decreases-loop : tie.decreases-loop-i
 decreases-loop rows js cs sum₀ i₀ sum i = rows - i
 
-loop-holds : tie.Need-loop-init invariant-loop decreases-loop
+loop-holds : tie.Need-loop-i-init invariant-loop decreases-loop
 loop-holds c = record {
   within = omega arith;
   fitted = rw (← fraction-int (pos 0)) (fits-sized (int (pos 0)) (int-fits (pos 0) (omega arith)));
@@ -51,93 +51,93 @@ loop-holds c = record {
 }
 
 -- the turn in which the coefficient of row i is read
-abbrev turn-of : tie.After-fraction-at invariant-loop decreases-loop → tie.In-loop invariant-loop decreases-loop
-turn-of own = own.before.before.before.before
+abbrev turn-of : tie.After-fraction_at-coefficient invariant-loop decreases-loop → tie.In-loop-i invariant-loop decreases-loop
+turn-of own = own.before.before.before
 
 -- the coefficient and the jump of row i are read
-module _ (c : tie.After-fraction-at2 invariant-loop decreases-loop) where
-  abbrev own : tie.After-fraction-at invariant-loop decreases-loop
-  own = c.before.before.before.before
+module _ (c : tie.After-fraction_at-jump invariant-loop decreases-loop) where
+  abbrev own : tie.After-fraction_at-coefficient invariant-loop decreases-loop
+  own = c.before.before.before
 
-  abbrev at : tie.At-loop invariant-loop decreases-loop
+  abbrev at : tie.At-loop-i invariant-loop decreases-loop
   at = (turn-of own).before
 
-  coefficient_is : (ps : List ℚ) → at.before.args.t2 ≡ fractions ps → own.fraction-at.result ≡ fraction (entry ps at.loop.i)
-  coefficient_is ps h = own.fraction-at.ensures ps h
+  coefficient_is : (ps : List ℚ) → at.args.cs ≡ fractions ps → own.fraction_at-coefficient.result ≡ fraction (entry ps at.loop-i.i)
+  coefficient_is ps h = own.fraction_at-coefficient.ensures ps h
 
-  jump_is : (qs : List ℚ) → at.before.args.t1 ≡ fractions qs → c.fraction-at2.result ≡ fraction (entry qs at.loop.i)
-  jump_is qs e = c.fraction-at2.ensures qs e
+  jump_is : (qs : List ℚ) → at.args.js ≡ fractions qs → c.fraction_at-jump.result ≡ fraction (entry qs at.loop-i.i)
+  jump_is qs e = c.fraction_at-jump.ensures qs e
 
-add-term-requires : tie.Need-add-term-requires invariant-loop decreases-loop
+add-term-requires : tie.Need-add_term-next-requires invariant-loop decreases-loop
 add-term-requires c κs =
     let l = at c in
-    let p = l.before.pre.1 in
+    let p = l.requires.1 in
     record {
-      sum_fits = l.loop.inv.fitted;
-      coefficient-fits = rw (coefficient_is c p.1.of p.1.is) (fits-sized _ (p.1.fit l.loop.i));
-      jump_fits = rw (jump_is c p.0.of p.0.is) (fits-sized _ (p.0.fit l.loop.i));
+      sum_fits = l.loop-i.invariant.fitted;
+      coefficient-fits = rw (coefficient_is c p.1.of p.1.is) (fits-sized _ (p.1.fit l.loop-i.i));
+      jump_fits = rw (jump_is c p.0.of p.0.is) (fits-sized _ (p.0.fit l.loop-i.i));
     }
 
 -- what the turn answers, in the definition's terms
-module _ (a : tie.After-add-term invariant-loop decreases-loop) (j : ℕ) (qs ps : List ℚ) where
-  abbrev at_loop : tie.At-loop invariant-loop decreases-loop
+module _ (a : tie.After-add_term-next invariant-loop decreases-loop) (j : ℕ) (qs ps : List ℚ) where
+  abbrev at_loop : tie.At-loop-i invariant-loop decreases-loop
   at_loop = at a.before
 
-  added_is : at_loop.before.args.t1 ≡ fractions qs → at_loop.before.args.t2 ≡ fractions ps
-      → a.add_term.result ≡ counted (added j qs ps at_loop.loop.i (value at_loop.loop.sum))
+  added_is : at_loop.args.js ≡ fractions qs → at_loop.args.cs ≡ fractions ps
+      → a.add_term-next.result ≡ counted (added j qs ps at_loop.loop-i.i (value at_loop.loop-i.sum))
   added_is e h =
-      let l = at_loop.loop in
-      a.add_term.ensures.0 j (value l.sum) (entry ps l.i) (entry qs l.i) l.inv.lowest
+      let l = at_loop.loop-i in
+      a.add_term-next.ensures.0 j (value l.sum) (entry ps l.i) (entry qs l.i) l.invariant.lowest
       (coefficient_is a.before ps h) (jump_is a.before qs e)
 
-returns : tie.Need-returns invariant-loop decreases-loop
+returns : tie.Need-returns-in-TooLarge invariant-loop decreases-loop
 returns c j qs ps e h size =
-    let a = c.before.before in
-    let t = (turn-of (own a.before)).loop-test in
-    let l = (at_loop a j qs ps).loop in
-    let r = large_refused (added j qs ps l.i (value l.sum)) (sym (added_is a j qs ps e h) ∙ c.enum_told.given.1) in
-    balance_large j qs ps (sum_stays j qs ps (suc l.i) (length qs) (omega (arith, size, t.taken))
-    (sum_more j qs ps l.i (l.inv.state j qs ps e h) ∙ r.refuses))
+    let a = c in
+    let t = (turn-of (own a.before.before)).loop-i-test in
+    let l = (at_loop a.before j qs ps).loop-i in
+    let r = large_refused (added j qs ps l.i (value l.sum)) (sym (added_is a.before j qs ps e h) ∙ c.in-TooLarge.is) in
+    balance_large j qs ps (sum_stays j qs ps (suc l.i) (length qs) (omega (arith, size, t.true))
+    (sum_more j qs ps l.i (l.invariant.state j qs ps e h) ∙ r.refuses))
 
-loop-again : tie.Need-loop-preserved invariant-loop decreases-loop
+loop-again : tie.Need-loop-i-preserved invariant-loop decreases-loop
 loop-again c =
-    let k = c.before.next.given in
-    let a = c.before.before.before in
-    let l = (at a.before).loop in
+    let k = c.in-Fits in
+    let a = c in
+    let l = (at a.before.before).loop-i in
     record {
       within = omega arith;
-      fitted = a.add_term.ensures.1 k.0.0 k.1;
-      lowest = let p = (at a.before).before.requires.1 in (fits_answered (added 0 p.0.of p.1.of l.i (value l.sum)) k.0.0
-          (sym (added_is a 0 p.0.of p.1.of p.0.is p.1.is) ∙ k.1)).lowest;
+      fitted = a.add_term-next.ensures.1 k.s k.is;
+      lowest = let p = (at a.before.before).requires.1 in (fits_answered (added 0 p.0.of p.1.of l.i (value l.sum)) k.s
+          (sym (added_is a.before 0 p.0.of p.1.of p.0.is p.1.is) ∙ k.is)).lowest;
       state = λ j qs ps e h.
           ap (jump_sum j qs ps) (add-one l.i)
-          ∙ sum_more j qs ps l.i (l.inv.state j qs ps e h)
-          ∙ (fits_answered (added j qs ps l.i (value l.sum)) k.0.0 (sym (added_is a j qs ps e h) ∙ k.1)).answers;
+          ∙ sum_more j qs ps l.i (l.invariant.state j qs ps e h)
+          ∙ (fits_answered (added j qs ps l.i (value l.sum)) k.s (sym (added_is a.before j qs ps e h) ∙ k.is)).answers;
     }
 
 -- the sum of all rows
-module _ (c : tie.After-loop invariant-loop decreases-loop) (j : ℕ) (qs ps : List ℚ) (e : c.before.before.args.t1 ≡ fractions qs)
-    (h : c.before.before.args.t2 ≡ fractions ps) (size : length qs ≡ c.before.before.args.rows) where
-  whole : jump_sum j qs ps (length qs) ≡ answer (value c.before.loop.sum)
-  whole = ap (jump_sum j qs ps) (let z : length qs ≡ c.before.loop.i = omega (arith, size, c.before.loop.invariant.within, c.loop-test.false) in z) ∙ c.before.loop.invariant.state j qs ps e h
+module _ (c : tie.After-loop-i invariant-loop decreases-loop) (j : ℕ) (qs ps : List ℚ) (e : c.before.before.args.js ≡ fractions qs)
+    (h : c.before.before.args.cs ≡ fractions ps) (size : length qs ≡ c.before.before.args.rows) where
+  whole : jump_sum j qs ps (length qs) ≡ answer (value c.loop-i.sum)
+  whole = ap (jump_sum j qs ps) (let z : length qs ≡ c.loop-i.i = omega (arith, size, c.loop-i.invariant.within, c.loop-i-test.false) in z) ∙ c.loop-i.invariant.state j qs ps e h
 
-returns-2 : tie.Need-returns-2 invariant-loop decreases-loop
+returns-2 : tie.Need-returns-then-sum-eq0 invariant-loop decreases-loop
 unfolding fraction
 returns-2 c j qs ps e h size =
-    let d = c.before in
-    let v = d.before.before.before.loop.invariant in
+    let d = c in
+    let v = d.loop-i.invariant in
     let n = num_fits v.fitted in
-    balance-zero j qs ps (whole d.before.before j qs ps e h size) (zero_test (zero_is _ (sym (ap (λ (x : Fraction). x.num) v.lowest) ∙ of_z_inj w64 _ (pos 0) n (search rules) c.if1.true)))
+    balance-zero j qs ps (whole d.before.before.before j qs ps e h size) (zero_test (zero_is _ (sym (ap (λ (x : Fraction). x.num) v.lowest) ∙ of_z_inj w64 _ (pos 0) n (search rules) c.if-sum-eq0.true)))
 
-returns-3 : tie.Need-returns-3 invariant-loop decreases-loop
+returns-3 : tie.Need-returns invariant-loop decreases-loop
 unfolding fraction
 returns-3 c j qs ps e h size =
-    let d = c.before in
-    let v = d.before.before.before.loop.invariant in
-    balance_not j qs ps (whole d.before.before j qs ps e h size) (nonzero_test (λ z. c.if1.false (ap (of_z w64) (ap (λ (x : Fraction). x.num) v.lowest ∙ zero_num z))))
+    let d = c in
+    let v = d.loop-i.invariant in
+    balance_not j qs ps (whole d.before.before.before j qs ps e h size) (nonzero_test (λ z. c.if-sum-eq0.false (ap (of_z w64) (ap (λ (x : Fraction). x.num) v.lowest ∙ zero_num z))))
 
-pub balanced-spec : {M : Type 1} → statement M
-balanced-spec =
-    tie.close (tie.spec invariant-loop decreases-loop loop-holds (λ c κs. let t = c.before.before.before in omega (arith, t.loop-test.true, t.before.before.requires.0))
-    (λ c κs. let t = turn-of c.before.before.before in omega (arith, t.loop-test.taken, t.before.before.pre.0)) add-term-requires (λ c. search rules) (λ c. search rules) returns
+pub balanced_spec : {M : Type 1} → statement M
+balanced_spec =
+    tie.close (tie.spec invariant-loop decreases-loop loop-holds (λ c κs. let t = c in omega (arith, t.loop-i-test.true, t.requires.0))
+    (λ c κs. let t = turn-of c.before.before in omega (arith, t.loop-i-test.true, t.requires.0)) add-term-requires (λ c. search rules) (λ c. search rules) returns
     (λ c. omega arith) (λ c. omega arith) loop-again returns-2 returns-3)

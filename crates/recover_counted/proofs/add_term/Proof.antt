@@ -36,56 +36,56 @@ module _ (f : Fraction) (q : ℚ) (is : f ≡ fraction q) where
   some_told h = nonzero_test (λ z. h (ap (λ (x : Fraction). x.num) is ∙ zero_num z))
 
 -- what the product answers
-module _ (p : tie.After-product) where
+module _ (p : tie.After-product-term) where
   abbrev start : tie.Start
   start = p.before.before.before.before
 
-  product_is : (j : ℕ) (c q : ℚ) → start.args.coefficient ≡ fraction c → start.args.jump ≡ fraction q → p.product.result ≡ counted (fitted j (c *ᵠ q))
-  product_is j c q e h = p.product.ensures ∙ machine_sized j _ ∙ ap₂ (λ x y. counted (fitted j (x *ᵠ y))) (ap value e ∙ value-fraction c) (ap value h ∙ value-fraction q)
+  product_is : (j : ℕ) (c q : ℚ) → start.args.coefficient ≡ fraction c → start.args.jump ≡ fraction q → p.product-term.result ≡ counted (fitted j (c *ᵠ q))
+  product_is j c q e h = p.product-term.ensures ∙ machine_sized j _ ∙ ap₂ (λ x y. counted (fitted j (x *ᵠ y))) (ap value e ∙ value-fraction c) (ap value h ∙ value-fraction q)
 
-  plain : (j : ℕ) → p.product.result ≡ counted (fitted j (value start.args.coefficient *ᵠ value start.args.jump))
-  plain j = p.product.ensures ∙ machine_sized j _
+  plain : (j : ℕ) → p.product-term.result ≡ counted (fitted j (value start.args.coefficient *ᵠ value start.args.jump))
+  plain j = p.product-term.ensures ∙ machine_sized j _
 
   tested : (j : ℕ) (s c q : ℚ) → start.args.jump ≡ fraction q → counted
       (cond (not (is_zero q)) (fitted j (c *ᵠ q) then λ p. fitted j (s +ᵠ p)) (answer s)) ≡ counted (fitted j (c *ᵠ q) then λ p. fitted j (s +ᵠ p))
-  tested j s c q h = ap (λ b. counted (cond (not b) (fitted j (c *ᵠ q) then λ p. fitted j (s +ᵠ p)) (answer s))) (some_told start.args.jump q h (λ z. p.before.if1.left (ap (of_z w64) z)))
+  tested j s c q h = ap (λ b. counted (cond (not b) (fitted j (c *ᵠ q) then λ p. fitted j (s +ᵠ p)) (answer s))) (some_told start.args.jump q h (λ z. p.if-jump-eq0.false (ap (of_z w64) z)))
 
-returns : tie.Need-returns
+returns : tie.Need-returns-then-jump-eq0
 unfolding counted
 returns c =
-    let s = c.before.before.before in
+    let s = c in
     let n = num_fits s.requires.jump_fits in (
       (λ j a b q e h k. ap Fits e ∙ sym (ap (λ z. counted (cond (not z) (fitted j (b *ᵠ q) then λ p. fitted j (a +ᵠ p)) (answer a)))
-          (zero_told s.args.jump q k (of_z_inj w64 _ (pos 0) n (search rules) c.if1.true)))),
+          (zero_told s.args.jump q k (of_z_inj w64 _ (pos 0) n (search rules) c.if-jump-eq0.true)))),
       (λ f e. subst FractionFits (let z : s.args.sum ≡ f = cc in z) s.requires.sum_fits),
     )
 
 sum-requires : tie.Need-sum-requires
 sum-requires c κs =
-    let p = c.before.before.before in
+    let p = c in
     record {
-      first = (start p).requires.sum_fits;
-      second = (sized-sized 0 _ c.before.term.given.0.0 (sym (plain p 0) ∙ c.before.term.given.1)).1;
+      first = (start p.before).requires.sum_fits;
+      second = (sized-sized 0 _ c.in-Fits.t (sym (plain p.before 0) ∙ c.in-Fits.is)).1;
     }
 
-returns-2 : tie.Need-returns-2
+returns-2 : tie.Need-returns-in-Fits
 returns-2 c =
-    let p = c.before.before.before.before in
-    let k = c.before.before.term.given in (
+    let p = c in
+    let k = c.in-Fits in (
       (λ j a b q e h z.
           c.sum.ensures
           ∙ machine_sized j _
-          ∙ ap (λ x. counted (fitted j (x +ᵠ value k.0.0))) (ap value e ∙ value-fraction a)
-          ∙ sym (tested p j a b q z ∙ fits_then (fitted j (b *ᵠ q)) (λ x. fitted j (a +ᵠ x)) k.0.0 (sym (product_is p j b q h z) ∙ k.1))),
+          ∙ ap (λ x. counted (fitted j (x +ᵠ value k.t))) (ap value e ∙ value-fraction a)
+          ∙ sym (tested p.before.before j a b q z ∙ fits_then (fitted j (b *ᵠ q)) (λ x. fitted j (a +ᵠ x)) k.t (sym (product_is p.before.before j b q h z) ∙ k.is))),
       (λ f e. (sized-sized 0 _ f (sym (machine_sized 0 _) ∙ sym c.sum.ensures ∙ e)).1),
     )
 
-returns-3 : tie.Need-returns-3
+returns-3 : tie.Need-returns-in-TooLarge
 returns-3 c =
-    let p = c.before.before in (
-      (λ j a b q e h z. sym (tested p j a b q z ∙ large_then (fitted j (b *ᵠ q)) (λ x. fitted j (a +ᵠ x)) (sym (product_is p j b q h z) ∙ c.enum_told.given.1))),
+    let p = c in (
+      (λ j a b q e h z. sym (tested p.before j a b q z ∙ large_then (fitted j (b *ᵠ q)) (λ x. fitted j (a +ᵠ x)) (sym (product_is p.before j b q h z) ∙ c.in-TooLarge.is))),
       (λ f e. absurd (let z : ◌≡◌ {A = ℕ} 0 1 = cc in omega arith)),
     )
 
-pub add-term-spec : {M : Type 1} → statement M
-add-term-spec = tie.close (tie.spec returns (λ c κs. search rules) (λ c. search rules) sum-requires (λ c. search rules) returns-2 returns-3)
+pub add_term_spec : {M : Type 1} → statement M
+add_term_spec = tie.close (tie.spec returns (λ c κs. search rules) (λ c. search rules) sum-requires (λ c. search rules) returns-2 returns-3)

@@ -33,92 +33,92 @@ abbrev subtracted : ℕ → ℚ → ℚ → ℚ → Outcome ℚ
 subtracted j v a share = fitted j (a -ᵠ share) then λ d. divided j v d
 
 -- the share
-module _ (p : tie.After-product) where
+module _ (p : tie.After-product-share) where
   abbrev start : tie.Start
   start = p.before.before
 
-  plain : (j : ℕ) → p.product.result ≡ counted (fitted j (value p.before.complement.result *ᵠ value start.args.before))
-  plain j = p.product.ensures ∙ machine_sized j _
+  plain : (j : ℕ) → p.product-share.result ≡ counted (fitted j (value p.complement-rest.result *ᵠ value start.args.before))
+  plain j = p.product-share.ensures ∙ machine_sized j _
 
-  share_is : (j : ℕ) (v b : ℚ) → start.args.w ≡ fraction v → start.args.before ≡ fraction b → p.product.result ≡ counted (fitted j ((int (pos 1) -ᵠ v) *ᵠ b))
+  share_is : (j : ℕ) (v b : ℚ) → start.args.w ≡ fraction v → start.args.before ≡ fraction b → p.product-share.result ≡ counted (fitted j ((int (pos 1) -ᵠ v) *ᵠ b))
   share_is j v b e h = plain j ∙ ap₂ (λ x y. counted (fitted j (x *ᵠ y)))
-      (p.before.complement.ensures.0 ∙ ap (λ x. int (pos 1) -ᵠ x) (ap value e ∙ value-fraction v)) (ap value h ∙ value-fraction b)
+      (p.complement-rest.ensures.0 ∙ ap (λ x. int (pos 1) -ᵠ x) (ap value e ∙ value-fraction v)) (ap value h ∙ value-fraction b)
 
-module _ (s : tie.After-share) where
-  abbrev at_product : tie.After-product
-  at_product = s.before.before
+module _ (s : tie.In-Fits) where
+  abbrev at_product : tie.After-product-share
+  at_product = s.before
 
   abbrev share : Fraction
-  share = s.share.given.0.0
+  share = s.in-Fits.s
 
   share-sized : FractionFits share
-  share-sized = (sized-sized 0 _ share (sym (plain at_product 0) ∙ s.share.given.1)).1
+  share-sized = (sized-sized 0 _ share (sym (plain at_product 0) ∙ s.in-Fits.is)).1
 
   negated_fits : SFits w64 (pos 0 -ℤ share.num)
   negated_fits = sub_fits (pos 0) share.num (omega arith) share-sized.num_small
 
 -- the difference
-module _ (m : tie.After-sum) where
-  abbrev at_share : tie.After-share
-  at_share = m.before.before.before.before
+module _ (m : tie.After-sum-difference) where
+  abbrev at_share : tie.In-Fits
+  at_share = m.before.before.before
 
   abbrev whole : tie.Start
   whole = start (at_product at_share)
 
-  difference : (j : ℕ) → m.sum.result ≡ counted (fitted j (value whole.args.coefficient -ᵠ value (share at_share)))
+  difference : (j : ℕ) → m.sum-difference.result ≡ counted (fitted j (value whole.args.coefficient -ᵠ value (share at_share)))
   difference j =
-      (simp (to_z-of_z, num_fits (share-sized at_share), den-fits (share-sized at_share), negated_fits at_share) at m.sum.ensures)
+      (simp (to_z-of_z, num_fits (share-sized at_share), den-fits (share-sized at_share), negated_fits at_share) at m.sum-difference.ensures)
       ∙ machine_sized j _
       ∙ ap (λ q. counted (fitted j (value whole.args.coefficient +ᵠ q))) (neg_value (share at_share) (share-sized at_share).den_pos)
 
-  difference_is : (j : ℕ) (a : ℚ) → whole.args.coefficient ≡ fraction a → m.sum.result ≡ counted (fitted j (a -ᵠ value (share at_share)))
+  difference_is : (j : ℕ) (a : ℚ) → whole.args.coefficient ≡ fraction a → m.sum-difference.result ≡ counted (fitted j (a -ᵠ value (share at_share)))
   difference_is j a e = difference j ∙ ap (λ x. counted (fitted j (x -ᵠ value (share at_share)))) (ap value e ∙ value-fraction a)
 
   -- the share fits: the rest goes on with it
   after-share : (j : ℕ) (v a b : ℚ) → whole.args.w ≡ fraction v → whole.args.before ≡ fraction b → counted (undone_coefficient j v a b) ≡ counted (subtracted j v a (value (share at_share)))
   unfolding undone_coefficient
-  after-share j v a b e h = fits_then (fitted j ((int (pos 1) -ᵠ v) *ᵠ b)) (subtracted j v a) (share at_share) (sym (share_is (at_product at_share) j v b e h) ∙ at_share.share.given.1)
+  after-share j v a b e h = fits_then (fitted j ((int (pos 1) -ᵠ v) *ᵠ b)) (subtracted j v a) (share at_share) (sym (share_is (at_product at_share) j v b e h) ∙ at_share.in-Fits.is)
 
-sum-requires : tie.Need-sum-requires
+sum-requires : tie.Need-sum-difference-requires
 sum-requires c κs =
-    let s = c.before.before.before in
+    let s = c in
     record {
-      first = (start (at_product s)).pre.coefficient-fits;
-      second = simp (to_z-of_z, num_fits (share-sized s), den-fits (share-sized s), negated_fits s) (neg_sized (share s) (share-sized s));
+      first = (start (at_product s.before.before)).requires.coefficient-fits;
+      second = simp (to_z-of_z, num_fits (share-sized s.before.before), den-fits (share-sized s.before.before), negated_fits s.before.before) (neg_sized (share s.before.before) (share-sized s.before.before));
     }
 
 quotient-requires : tie.Need-quotient-requires
 quotient-requires c κs =
-    let d = c.before in
-    let m = d.before.before in
-    let p = (whole m).requires in
+    let d = c in
+    let m = d in
+    let p = (whole m.before).requires in
     record {
-      first = (sized-sized 0 _ d.difference.given.0.0 (sym (difference m 0) ∙ d.difference.given.1)).1;
-      second = unit-sized (whole m).args.w p.factor;
+      first = (sized-sized 0 _ d.in-Fits-difference.t (sym (difference m.before 0) ∙ d.in-Fits-difference.is)).1;
+      second = unit-sized (whole m.before).args.w p.factor;
       divisor_nonzero = p.factor_nonzero;
     }
 
-returns : tie.Need-returns
+returns : tie.Need-returns-in-TooLarge
 unfolding undone_coefficient
-returns c j v a b e h k = let p = c.before.before in sym (large_then (fitted j ((int (pos 1) -ᵠ v) *ᵠ b)) (subtracted j v a) (sym (share_is p j v b e k) ∙ c.enum_told.given.1))
+returns c j v a b e h k = let p = c in sym (large_then (fitted j ((int (pos 1) -ᵠ v) *ᵠ b)) (subtracted j v a) (sym (share_is p.before j v b e k) ∙ c.in-TooLarge.is))
 
-returns-2 : tie.Need-returns-2
+returns-2 : tie.Need-returns-in-TooLarge-difference
 returns-2 c j v a b e h k =
-    let m = c.before.before in
-    sym (after-share m j v a b e k ∙ large_then (fitted j (a -ᵠ value (share (at_share m)))) (divided j v) (sym (difference_is m j a h) ∙ c.enum-told2.given.1))
+    let m = c in
+    sym (after-share m.before j v a b e k ∙ large_then (fitted j (a -ᵠ value (share (at_share m.before)))) (divided j v) (sym (difference_is m.before j a h) ∙ c.in-TooLarge-difference.is))
 
-returns-3 : tie.Need-returns-3
+returns-3 : tie.Need-returns-in-Fits-difference
 returns-3 c j v a b e h k =
-    let d = c.before.before in
-    let m = d.before.before in
-    let g = d.difference.given in
+    let d = c in
+    let m = d in
+    let g = d.in-Fits-difference in
     c.quotient.ensures
     ∙ machine_sized j _
-    ∙ ap (λ x. counted (fitted j (value g.0.0 /ᵠ x))) (ap value e ∙ value-fraction v)
-    ∙ sym (after-share m j v a b e k ∙ fits_then (fitted j (a -ᵠ value (share (at_share m)))) (divided j v) g.0.0 (sym (difference_is m j a h) ∙ g.1))
+    ∙ ap (λ x. counted (fitted j (value g.t /ᵠ x))) (ap value e ∙ value-fraction v)
+    ∙ sym (after-share m.before.before j v a b e k ∙ fits_then (fitted j (a -ᵠ value (share (at_share m.before.before)))) (divided j v) g.t (sym (difference_is m.before.before j a h) ∙ g.is))
 
-pub undo-coefficient-spec : {M : Type 1} → statement M
-undo-coefficient-spec =
+pub undo_coefficient_spec : {M : Type 1} → statement M
+undo_coefficient_spec =
     tie.close (tie.spec (λ c κs. search rules) (λ c κs. search rules) (λ c. search rules) (λ c. search rules)
-    (λ c. let s = c.before.before.before in simp (to_z-of_z, num_fits (share-sized s)) (negated_fits s)) sum-requires (λ c. search rules)
+    (λ c. let s = c in simp (to_z-of_z, num_fits (share-sized s.before.before)) (negated_fits s.before.before)) sum-requires (λ c. search rules)
     (λ c. search rules) quotient-requires returns returns-2 returns-3)

@@ -20,14 +20,14 @@ use Rattle.recover_joins.proofs.Turns.{append_fit, columns-fit, columns-count}
 use Rattle.recover_joins.proofs.recover_join.Statement.{statement}
 use Rattle.recover_joins.proofs.recover_join.Tie as tie
 
-abbrev start : tie.After-append → tie.Start
+abbrev start : tie.After-append-present → tie.Start
 start c = c.before.before.before.before.before.before
 
-append-requires : tie.Need-append-requires
-append-requires c κs = let p = c.before.before.before.before.before.requires in (p.growth.low, omega (arith, p.growth.wide, p.given.count))
+append-requires : tie.Need-append-present-requires
+append-requires c κs = let p = c.requires in (p.growth.low, omega (arith, p.growth.wide, p.given.count))
 
 -- the table with the rows and the coefficients that came in
-module _ (c : tie.After-append) (t : Table) (ps : List ℚ) (h : Holds (start c).args.num.now (start c).args.den.now t)
+module _ (c : tie.After-append-present) (t : Table) (ps : List ℚ) (h : Holds (start c).args.num.now (start c).args.den.now t)
     (shaped : Shaped t (start c).args.rows (start c).args.columns) (e : (start c).args.cs ≡ fractions ps)
     (size : length ps ≡ (start c).args.rows) (fit : AllFit ps) where
   abbrev column : ℕ
@@ -49,15 +49,15 @@ module _ (c : tie.After-append) (t : Table) (ps : List ℚ) (h : Holds (start c)
   proper = grown_proper t (start c).args.rows column n columns (record { shaped = shaped; fit = h.fit })
       (start c).requires.growth.wide (start c).requires.growth.low
 
-  num_is : c.before.before.add-rows.new.0 ≡ numerators more (start c).args.num.now
-  num_is = c.before.before.add-rows.ensures t columns h.num_is shaped.row_count (start c).requires.growth.wide
+  num_is : c.add_rows.new.num ≡ numerators more (start c).args.num.now
+  num_is = c.add_rows.ensures t columns h.num_is shaped.row_count_lem (start c).requires.growth.wide
 
-  holds : Holds c.before.before.add-rows.new.0 (start c).args.den.now more
+  holds : Holds c.add_rows.new.num (start c).args.den.now more
   holds = grown-holds t (start c).args.rows column n columns (record { shaped = shaped; fit = h.fit })
       (start c).requires.growth.wide (start c).requires.growth.low h num_is
 
-  coefficients_are : c.append.result ≡ fractions coefficients
-  coefficients_are = c.append.ensures ps e size
+  coefficients_are : c.append-present.result ≡ fractions coefficients
+  coefficients_are = c.append-present.ensures ps e size
 
   count : length coefficients ≡ (start c).args.rows + n
   count = length-append ps (map int (take n (drop column (start c).args.ordinates.now)))
@@ -67,10 +67,10 @@ module _ (c : tie.After-append) (t : Table) (ps : List ℚ) (h : Holds (start c)
   all_fit = append_fit ps (map int (take n (drop column (start c).args.ordinates.now))) fit
       (columns-fit (start c).args.ordinates.now column n (start c).requires.given.fit)
 
-recover-orders-requires : tie.Need-recover-orders-requires
+recover-orders-requires : tie.Need-recover_orders-requires
 recover-orders-requires c κs =
-    let a = c.before.before in
-    let p = (start a).requires in
+    let a = c in
+    let p = (start a.before.before).requires in
     let k = p.steps.held in
     let q = p.coefficients in
     record {
@@ -78,42 +78,42 @@ recover-orders-requires c κs =
         few = omega (arith, p.steps.few);
         fits = p.steps.fits;
         held = record {
-          table = more a k.table q.of k.holds k.shaped q.is q.count q.fit;
-          holds = holds a k.table q.of k.holds k.shaped q.is q.count q.fit;
-          shaped = (proper a k.table q.of k.holds k.shaped q.is q.count q.fit).shaped;
+          table = more a.before.before k.table q.of k.holds k.shaped q.is q.count q.fit;
+          holds = holds a.before.before k.table q.of k.holds k.shaped q.is q.count q.fit;
+          shaped = (proper a.before.before k.table q.of k.holds k.shaped q.is q.count q.fit).shaped;
         };
       };
       coefficients = record {
-        of = coefficients a k.table q.of k.holds k.shaped q.is q.count q.fit;
-        is = coefficients_are a k.table q.of k.holds k.shaped q.is q.count q.fit;
-        fit = all_fit a k.table q.of k.holds k.shaped q.is q.count q.fit;
-        count = count a k.table q.of k.holds k.shaped q.is q.count q.fit;
+        of = coefficients a.before.before k.table q.of k.holds k.shaped q.is q.count q.fit;
+        is = coefficients_are a.before.before k.table q.of k.holds k.shaped q.is q.count q.fit;
+        fit = all_fit a.before.before k.table q.of k.holds k.shaped q.is q.count q.fit;
+        count = count a.before.before k.table q.of k.holds k.shaped q.is q.count q.fit;
       };
     }
 
 -- they are those of the space
 returns : tie.Need-returns
 returns c s j t ps is h shaped e size fit =
-    let m = c.before.before in
-    let a = m.before.before.before in
-    let g = (start a).args in
-    let it : record { table = more a t ps h shaped e size fit; coefficients = coefficients a t ps h shaped e size fit } ≡ grown_combination s j g.columns
+    let m = c in
+    let a = m in
+    let g = (start a.before.before.before.before.before).args in
+    let it : record { table = more a.before.before.before.before.before t ps h shaped e size fit; coefficients = coefficients a.before.before.before.before.before t ps h shaped e size fit } ≡ grown_combination s j g.columns
     g.ordinates.now (record { table = t; coefficients = ps })
     = ap₂ (λ k i. record {
       table = t ++ take (k + 1) (drop i (identity g.columns));
       coefficients = ps ++ map int (take (k + 1) (drop i g.ordinates.now));
     }) is.right_is.degree_is is.right_is.column_is in
-    subst (λ (r : Combination). Leaves (recover_orders s j g.n r) m.recover-orders.result g.num.now g.den.now m.recover-orders.new.0 m.recover-orders.new.1.0) it
-    (left_from (λ q. q.table) told_coefficients _ _ _ _ m.recover-orders.result (more a t ps h shaped e size fit) g.num.now g.den.now h.num_long
-    h.den_long (num_is a t ps h shaped e size fit)
+    subst (λ (r : Combination). Leaves (recover_orders s j g.n r) m.recover_orders.result g.num.now g.den.now m.recover_orders.new.num m.recover_orders.new.den) it
+    (left_from (λ q. q.table) told_coefficients _ _ _ _ m.recover_orders.result (more a.before.before.before.before.before t ps h shaped e size fit) g.num.now g.den.now h.num_long
+    h.den_long (num_is a.before.before.before.before.before t ps h shaped e size fit)
     (grown-denominators t g.rows _ _ g.columns (record { shaped = shaped; fit = h.fit })
-    (start a).requires.growth.wide (start a).requires.growth.low h (num_is a t ps h shaped e size fit))
-    (recover_orders s j g.n (record { table = more a t ps h shaped e size fit; coefficients = coefficients a t ps h shaped e size fit }))
-    (m.recover-orders.ensures s j (more a t ps h shaped e size fit) (coefficients a t ps h shaped e size fit) is (holds a t ps h shaped e size fit)
-    (proper a t ps h shaped e size fit).shaped (coefficients_are a t ps h shaped e size fit) (count a t ps h shaped e size fit)
-    (all_fit a t ps h shaped e size fit)))
+    (start a.before.before.before.before.before).requires.growth.wide (start a.before.before.before.before.before).requires.growth.low h (num_is a.before.before.before.before.before t ps h shaped e size fit))
+    (recover_orders s j g.n (record { table = more a.before.before.before.before.before t ps h shaped e size fit; coefficients = coefficients a.before.before.before.before.before t ps h shaped e size fit }))
+    (m.recover_orders.ensures s j (more a.before.before.before.before.before t ps h shaped e size fit) (coefficients a.before.before.before.before.before t ps h shaped e size fit) is (holds a.before.before.before.before.before t ps h shaped e size fit)
+    (proper a.before.before.before.before.before t ps h shaped e size fit).shaped (coefficients_are a.before.before.before.before.before t ps h shaped e size fit) (count a.before.before.before.before.before t ps h shaped e size fit)
+    (all_fit a.before.before.before.before.before t ps h shaped e size fit)))
 
-pub recover-join-spec : {M : Type 1} → statement M
-recover-join-spec =
+pub recover_join_spec : {M : Type 1} → statement M
+recover_join_spec =
     tie.close (tie.spec (λ c. search rules) (λ c κs. search rules) append-requires (λ c. search rules) recover-orders-requires
     (λ c. search rules) (λ c. search rules) returns)

@@ -40,13 +40,13 @@ record Inv (num₀ den₀ : List ℤ) (join : Join) (n rows columns : ℕ) (cs :
   at : (s : Space) (j : ℕ) (t : Table) (ps : List ℚ) → JoinIs join s j → Holds num₀ den₀ t → Shaped t rows columns → cs ≡ fractions ps → length ps ≡ rows → AllFit ps
       → Reached s j n rows columns (record { table = t; coefficients = ps }) num₀ den₀ num dens present k
 
-abbrev invariant-loop : tie.invariant-loop
+abbrev invariant-loop : tie.invariant-loop-k
 invariant-loop num₀ den₀ join n rows columns present₀ k₀ num den present k = Inv num₀ den₀ join n rows columns present₀ num den present k
 
-abbrev decreases-loop : tie.decreases-loop
+abbrev decreases-loop : tie.decreases-loop-k
 decreases-loop num₀ den₀ join n rows columns present₀ k₀ num den present k = n - k
 
-loop-holds : tie.Need-loop-init invariant-loop decreases-loop
+loop-holds : tie.Need-loop-k-init invariant-loop decreases-loop
 unfolding repeat
 loop-holds c = record {
   within = omega arith;
@@ -65,14 +65,14 @@ loop-holds c = record {
   };
 }
 
-recover-step-requires : tie.Need-recover-step-requires invariant-loop decreases-loop
+recover-step-requires : tie.Need-recover_step-next-requires invariant-loop decreases-loop
 recover-step-requires c κs =
-    let l = c.before.before.before in
-    let p = l.before.requires in
-    let f = p.steps.fits l.loop.k c.before.before.loop-test.true in
+    let l = c in
+    let p = l.requires in
+    let f = p.steps.fits l.loop-k.k c.loop-k-test.true in
     let k = p.steps.held in
     let n = p.coefficients in
-    let x = l.loop.invariant.at f.space f.index k.table n.of f.is k.holds k.shaped n.is n.count n.fit in
+    let x = l.loop-k.invariant.at f.space f.index k.table n.of f.is k.holds k.shaped n.is n.count n.fit in
     let y = x.state.sound in
     record {
       fits = f;
@@ -81,70 +81,70 @@ recover-step-requires c κs =
     }
 
 -- what the turn leaves, in the definitions' terms
-module _ (m : tie.After-recover-step invariant-loop decreases-loop) where
-  abbrev at_loop : tie.At-loop invariant-loop decreases-loop
+module _ (m : tie.After-recover_step-next invariant-loop decreases-loop) where
+  abbrev at_loop : tie.At-loop-k invariant-loop decreases-loop
   at_loop = m.before.before.before.before
 
   abbrev start : tie.Start invariant-loop decreases-loop
   start = at_loop.before
 
-  taken : at_loop.loop.k < start.args.n
-  taken = m.before.before.before.loop-test.taken
+  taken : at_loop.loop-k.k < start.args.n
+  taken = m.loop-k-test.true
 
-  num_kept : length m.recover-step.last.0 ≡ length start.args.num.now
-  num_kept = m.recover-step.kept.0 ∙ at_loop.loop.inv.num_long
+  num_kept : length m.recover_step-next.new.num ≡ length start.args.num.now
+  num_kept = m.recover_step-next.auto.num ∙ at_loop.loop-k.invariant.num_long
 
-  den-kept : length m.recover-step.last.1.0 ≡ length start.args.den.now
-  den-kept = m.recover-step.kept.1.0 ∙ at_loop.loop.inv.den_long
+  den-kept : length m.recover_step-next.new.den ≡ length start.args.den.now
+  den-kept = m.recover_step-next.auto.den ∙ at_loop.loop-k.invariant.den_long
 
   module _ (s : Space) (j : ℕ) (t : Table) (ps : List ℚ) (is : JoinIs start.args.join s j) (h : Holds start.args.num.now start.args.den.now t)
       (shaped : Shaped t start.args.rows start.args.columns) (e : start.args.cs ≡ fractions ps) (size : length ps ≡ start.args.rows) (f : AllFit ps) where
     before : Reached s j start.args.n start.args.rows start.args.columns (record { table = t; coefficients = ps }) start.args.num.now
-        start.args.den.now at_loop.loop.num at_loop.loop.den at_loop.loop.present at_loop.loop.k
-    before = at_loop.loop.inv.at s j t ps is h shaped e size f
+        start.args.den.now at_loop.loop-k.num at_loop.loop-k.den at_loop.loop-k.present at_loop.loop-k.k
+    before = at_loop.loop-k.invariant.at s j t ps is h shaped e size f
 
-    left : Leaves (recover_step j (conditions s j at_loop.loop.k) before.state.reached) m.recover-step.result at_loop.loop.num
-        at_loop.loop.den m.recover-step.last.0 m.recover-step.last.1.0
-    left = m.recover-step.ensures s j before.state.reached.table before.state.reached.coefficients is
+    left : Leaves (recover_step j (conditions s j at_loop.loop-k.k) before.state.reached) m.recover_step-next.result at_loop.loop-k.num
+        at_loop.loop-k.den m.recover_step-next.new.num m.recover_step-next.new.den
+    left = m.recover_step-next.ensures s j before.state.reached.table before.state.reached.coefficients is
         (holds _ _ _ h.num_long h.den_long before.state) before.state.sound.proper.shaped before.is before.state.sound.count
 
     -- it is done
-    after : m.recover-step.result.refusal ≡ refusals.None
+    after : m.recover_step-next.result.refusal ≡ refusals.None
         → Reached s j start.args.n start.args.rows start.args.columns (record { table = t; coefficients = ps }) start.args.num.now
-        start.args.den.now m.recover-step.last.0 m.recover-step.last.1.0 m.recover-step.result.of (at_loop.loop.k + 1)
+        start.args.den.now m.recover_step-next.new.num m.recover_step-next.new.den m.recover_step-next.result.of (at_loop.loop-k.k + 1)
     after z = let d = leaves_none _ left z in record { state = goes_on_lem _ _ _ h.num_long h.den_long before.state taken d; is = ap (λ (x : RowCoefficients). x.of) d.told_is }
 
     -- it is refused
-    refused : {code : ℕ} {r : RowCoefficients} → m.recover-step.result.refusal ≡ refusals.Refused code → r ≡ record { refusal = refusals.Refused code; of = fractions [] }
+    refused : {code : ℕ} {r : RowCoefficients} → m.recover_step-next.result.refusal ≡ refusals.Refused code → r ≡ record { refusal = refusals.Refused code; of = fractions [] }
         → Leaves (recover_orders s j start.args.n (record { table = t; coefficients = ps })) r start.args.num.now start.args.den.now
-        m.recover-step.last.0 m.recover-step.last.1.0
+        m.recover_step-next.new.num m.recover_step-next.new.den
     unfolding recover_orders
     refused z told = let x = leaves_some _ left z in
         ends _ _ _ h.num_long h.den_long before.state taken told_coefficients x (told ∙ ap (λ q. record { refusal = refusals.Refused q; of = fractions [] }) (code_told _ left x z))
 
-loop-again : tie.Need-loop-preserved invariant-loop decreases-loop
+loop-again : tie.Need-loop-k-preserved invariant-loop decreases-loop
 loop-again c =
-    let m = c.before.before.before.before.before in
+    let m = c in
     record {
       within = omega arith;
-      num_long = num_kept m;
-      den_long = den-kept m;
-      at = λ s j t ps is h shaped e size f. after m s j t ps is h shaped e size f c.before.enum_told.given.1;
+      num_long = num_kept m.before.before.before.before;
+      den_long = den-kept m.before.before.before.before;
+      at = λ s j t ps is h shaped e size f. after m.before.before.before.before s j t ps is h shaped e size f c.in-None.is;
     }
 
-returns : tie.Need-returns invariant-loop decreases-loop
-returns c s j t ps is h shaped e size f = let r = c.before.before in refused r.before.before.before.before s j t ps is h shaped e size f r.refusal.given.1 c.refuse.ensures
+returns : tie.Need-returns-in-Refused invariant-loop decreases-loop
+returns c s j t ps is h shaped e size f = let r = c in refused r.before.before.before.before s j t ps is h shaped e size f r.in-Refused.is c.refuse.ensures
 
-returns-2 : tie.Need-returns-2 invariant-loop decreases-loop
+returns-2 : tie.Need-returns invariant-loop decreases-loop
 unfolding recover_orders
 returns-2 c s j t ps is h shaped e size f =
-    let l = c.before.loop in
+    let l = c.loop-k in
     let x = l.invariant.at s j t ps is h shaped e size f in
-    all_done _ _ _ told_coefficients x.state (let z : l.k ≡ c.before.before.args.n = omega arith in z) refl (ap (λ (a : Fractions). record { refusal = refusals.None; of = a }) x.is)
+    all_done _ _ _ told_coefficients x.state (let z : l.k ≡ c.args.n = omega arith in z) refl (ap (λ (a : Fractions). record { refusal = refusals.None; of = a }) x.is)
 
-pub recover-orders-spec : {M : Type 1} → statement M
-recover-orders-spec =
+pub recover_orders_spec : {M : Type 1} → statement M
+recover_orders_spec =
     tie.close (tie.spec invariant-loop decreases-loop loop-holds (λ c. omega arith) recover-step-requires (λ c. search rules) (λ c. omega arith)
     (λ c. omega arith) loop-again (λ c. search rules) (λ c κs. search rules)
-    (λ c. let b = c.before.before.before.before.before.before in num_kept b) (λ c. let b = c.before.before.before.before.before.before in den-kept b)
-    returns (λ c. c.before.loop.invariant.num_long) (λ c. c.before.loop.invariant.den_long) returns-2)
+    (λ c. let b = c in num_kept b.before.before.before.before) (λ c. let b = c in den-kept b.before.before.before.before)
+    returns (λ c. c.loop-k.invariant.num_long) (λ c. c.loop-k.invariant.den_long) returns-2)

@@ -18,25 +18,25 @@ abbrev lists : tie.Start → Space
 lists c = space c.args.breaks.now c.args.degrees.now c.args.orders.now
 
 -- the columns and the first segment's rows
-abbrev start : tie.After-degree-at → tie.Start
+abbrev start : tie.After-degree_at → tie.Start
 start c = c.before.before.before.before
 
-begun : (c : tie.After-degree-at) → Beginning (lists (start c)) c.before.before.before.first-column.result (c.degree-at.result + 1)
+begun : (c : tie.After-degree_at) → Beginning (lists (start c)) c.first_column-columns.result (c.degree_at.result + 1)
 begun c =
     beginning _ _ _ (start c).requires.part _ _
-    (c.before.before.before.first-column.ensures ∙ column-count_partial _ (start c).args.degrees.now _) c.degree-at.ensures
+    (c.first_column-columns.ensures ∙ column-count_partial _ (start c).args.degrees.now _) c.degree_at.ensures
 
 identity-requires : tie.Need-identity-requires
 identity-requires c κs =
     let room = (start c).requires.room in
     (omega (arith, (begun c).rows_few, (begun c).columns-fit), (room.num_long, room.den_long))
 
-recover-joins-requires : tie.Need-recover-joins-requires
+recover-joins-requires : tie.Need-recover_joins-requires
 recover-joins-requires c κs =
-    let i = c.before.before.before.before in
-    let s = start i.before in
-    let p = s.pre in
-    let b = begun i.before in
+    let i = c in
+    let s = start i.before.before.before.before.before in
+    let p = s.requires in
+    let b = begun i.before.before.before.before.before in
     record {
       part = p.part;
       start = begins s.args.num.now s.args.den.now b p.room.num_long p.room.den_long i.identity.ensures.0 i.identity.ensures.1;
@@ -45,14 +45,14 @@ recover-joins-requires c κs =
 
 returns : tie.Need-returns
 returns c =
-    let m = c.before.before in
-    let i = m.before.before.before.before.before in
-    let s = start i.before in
-    left_from (λ q. q.table) (told_joins (row_count (lists s))) _ _ _ _ m.recover-joins.result (identity (i.before.degree-at.result + 1))
-    s.args.num.now s.args.den.now s.pre.room.num_long s.pre.room.den_long i.identity.ensures.0 i.identity.ensures.1
-    (recovered (lists s) s.args.ordinates.now) m.recover-joins.ensures
+    let m = c in
+    let i = m in
+    let s = start i.before.before.before.before.before.before.before.before in
+    left_from (λ q. q.table) (told_joins (row_count (lists s))) _ _ _ _ m.recover_joins.result (identity (i.degree_at.result + 1))
+    s.args.num.now s.args.den.now s.requires.room.num_long s.requires.room.den_long i.identity.ensures.0 i.identity.ensures.1
+    (recovered (lists s) s.args.ordinates.now) m.recover_joins.ensures
 
-pub recover-part-spec : {M : Type 1} → statement M
-recover-part-spec =
+pub recover_part_spec : {M : Type 1} → statement M
+recover_part_spec =
     tie.close (tie.spec (λ c κs. search rules) (λ c κs. search rules) (λ c. omega (arith, (begun c).rows_few, (begun c).columns-fit))
     identity-requires recover-joins-requires (λ c. search rules) (λ c. search rules) returns)

@@ -1,6 +1,6 @@
 -- The jumps and the two halves of the build's step, then its undoing. Assumes nothing.
-use borrow.Author.Rules.{rules}
 use borrow.Author.Tests.{not-true, not-false}
+use borrow.Author.Rules.{rules}
 use mathlib.Core.Path.{◌≡◌, sym, ◌∙◌, ap, subst}
 use mathlib.Core.Bool.{Bool, true}
 use mathlib.Core.Logic.{◌⊎◌}
@@ -43,9 +43,9 @@ use Rattle.recover_joins.proofs.recover_step.Statement.{statement}
 use Rattle.recover_joins.proofs.recover_step.Tie as tie
 
 -- what the call is given
-module _ (c : tie.After-jumps) where
+module _ (c : tie.After-jumps-js) where
   abbrev start : tie.Start
-  start = c.before.before.before
+  start = c.before
 
   abbrev num : List ℤ
   num = start.args.num.now
@@ -54,7 +54,7 @@ module _ (c : tie.After-jumps) where
   den = start.args.den.now
 
 -- the step's join, its table and the coefficients of the rows
-record Given (c : tie.After-jumps) : Type 0 where
+record Given (c : tie.After-jumps-js) : Type 0 where
   s : Space
   j : ℕ
   t : Table
@@ -64,14 +64,14 @@ record Given (c : tie.After-jumps) : Type 0 where
   shaped : Shaped t (start c).args.rows (start c).args.columns
 
 -- what the jumps tell
-module _ (c : tie.After-jumps) (g : Given c) where
+module _ (c : tie.After-jumps-js) (g : Given c) where
   abbrev κ : List Entry
   κ = conditions g.s g.j (start c).args.k
 
-  jumps_are : c.jumps.result ≡ row_jumps (jumps g.j κ g.t)
-  jumps_are = c.jumps.ensures g.s g.j g.t g.is g.holds g.shaped.row_count
+  jumps_are : c.jumps-js.result ≡ row_jumps (jumps g.j κ g.t)
+  jumps_are = c.jumps-js.ensures g.s g.j g.t g.is g.holds g.shaped.row_count_lem
 
-  jumped : c.jumps.result.fit ≡ true → InArrays (jumps g.j κ g.t) c.jumps.result.of
+  jumped : c.jumps-js.result.fit ≡ true → InArrays (jumps g.j κ g.t) c.jumps-js.result.of
   jumped e = jumps_in_arrays _ _ jumps_are e
 
   -- a first half that is refused with this name and code
@@ -85,156 +85,156 @@ module _ (c : tie.After-jumps) (g : Given c) where
       (told ∙ ap (λ m. record { refusal = refusals.Refused m; of = fractions [] }) (sym (which x.code q.0 x.named))) (kept_same _) (kept_same _)
 
 -- what the first half tells
-module _ (c : tie.After-plan-step) where
-  abbrev first : tie.After-jumps
-  first = c.before.before.before
+module _ (c : tie.After-plan_step-plan) where
+  abbrev first : tie.After-jumps-js
+  first = c.before.before.before.before
 
   module _ (g : Given first) where
-    js : InArrays (jumps g.j (κ first g) g.t) first.jumps.result.of
-    js = jumped first g (not-false _ c.before.if1.false)
+    js : InArrays (jumps g.j (κ first g) g.t) first.jumps-js.result.of
+    js = jumped first g (not-false _ c.if-not-js.false)
 
     jump-count : length js.of ≡ (start first).args.rows
-    jump-count = jumps_length g.j (κ first g) g.t js.answers ∙ g.shaped.row_count
+    jump-count = jumps_length g.j (κ first g) g.t js.answers ∙ g.shaped.row_count_lem
 
-    plans : Plans (plan_from g.j js.of) c.plan-step.result
-    plans = c.plan-step.ensures js.of g.j js.is jump-count
+    plans : Plans (plan_from g.j js.of) c.plan_step-plan.result
+    plans = c.plan_step-plan.ensures js.of g.j js.is jump-count
 
-    refused : {reason : StepRefusal} → c.plan-step.result.refusal ≡ reason → (reason ≡ build-refusals.None → ⊥)
+    refused : {reason : StepRefusal} → c.plan_step-plan.result.refusal ≡ reason → (reason ≡ build-refusals.None → ⊥)
         → Ended (planned g.j (κ first g) g.t) reason
     refused {reason} e n = plan_ended g.j _ g.t js.answers _ plans reason e n
 
 -- the rows and factors, and what the undoing asks of them
-module _ (c : tie.After-enum-told3) where
-  abbrev half : tie.After-plan-step
-  half = c.before.before
+module _ (c : tie.In-None) where
+  abbrev half : tie.After-plan_step-plan
+  half = c.before
 
   module _ (g : Given (first half)) where
-    works : Ready g.j (κ (first half) g) g.t half.plan-step.result
-    works = plan_ready g.j _ g.t (js half g).answers _ (plans half g) c.enum-told3.given.1
+    works : Ready g.j (κ (first half) g) g.t half.plan_step-plan.result
+    works = plan_ready g.j _ g.t (js half g).answers _ (plans half g) c.in-None.is
 
-    f_is : half.plan-step.result.f ≡ works.of.span.f
+    f_is : half.plan_step-plan.result.f ≡ works.of.span.f
     f_is = ap (λ (x : Span). x.f) works.span_is
 
-    l_is : half.plan-step.result.l ≡ works.of.span.l
+    l_is : half.plan_step-plan.result.l ≡ works.of.span.l
     l_is = ap (λ (x : Span). x.l) works.span_is
 
     within : works.of.span.l < (start (first half)).args.rows
-    within = omega (arith, works.works.spans.below, works.works.count, g.shaped.row_count)
+    within = omega (arith, works.works.spans.below, works.works.count, g.shaped.row_count_lem)
 
-    unit : UnitFactors half.plan-step.result.of
+    unit : UnitFactors half.plan_step-plan.result.of
     unit = subst UnitFactors (sym works.factors_are) works.works.unit
 
-    nonzero : NonZero half.plan-step.result.of (half.plan-step.result.l - half.plan-step.result.f)
+    nonzero : NonZero half.plan_step-plan.result.of (half.plan_step-plan.result.l - half.plan_step-plan.result.f)
     nonzero us e d below =
         factors_nonzero g.j works.of.jumps works.of.span works.of.factors works.works.has_factors
         (omega (arith, within, g.shaped.rows_fit)) us (sym works.factors_are ∙ e) d (omega (arith, below, f_is, l_is))
 
     -- the jumps are those of the plan
-    jumps-same : (first half).jumps.result.of ≡ fractions works.of.jumps
+    jumps-same : (first half).jumps-js.result.of ≡ fractions works.of.jumps
     jumps-same = (js half g).is ∙ ap fractions (answer_unique (js half g).answers works.works.has_jumps)
 
 -- what the second half leaves
-module _ (c : tie.After-renew-rows) where
-  abbrev told_at : tie.After-enum-told3
-  told_at = c.before.before.before
+module _ (c : tie.After-renew_rows-done) where
+  abbrev told_at : tie.In-None
+  told_at = c.before.before.before.before
 
   module _ (g : Given (first (half told_at))) where
     abbrev Left : Span → Bool → Type 0
     Left x b = LeavesIf (rows_renewed g.j x (works told_at g).of.factors g.t) b (num (first (half told_at))) (den (first (half told_at)))
-        c.renew-rows.new.0 c.renew-rows.new.1.0
+        c.renew_rows-done.new.num c.renew_rows-done.new.den
 
-    left : {b : Bool} → c.renew-rows.result ≡ b → Left (works told_at g).of.span b
+    left : {b : Bool} → c.renew_rows-done.result ≡ b → Left (works told_at g).of.span b
     left e =
         let w = works told_at g in
         subst (Left w.of.span) e
-        (subst (λ x. Left x c.renew-rows.result) w.span_is
-        (c.renew-rows.ensures g.t g.j w.of.factors g.holds g.shaped w.factors_are))
+        (subst (λ x. Left x c.renew_rows-done.result) w.span_is
+        (c.renew_rows-done.ensures g.t g.j w.of.factors g.holds g.shaped w.factors_are))
 
 -- the join, table and coefficients that the call asks for
-given : (c : tie.After-jumps) → Given c
+given : (c : tie.After-jumps-js) → Given c
 given c =
     let p = (start c).requires in
     let k = p.held in
     let i = p.fits in
     record { s = i.space; j = i.index; t = k.table; ps = p.coefficients.of; is = i.is; holds = k.holds; shaped = k.shaped }
 
-jumps-requires : tie.Need-jumps-requires
-jumps-requires c κs = let p = c.before.before.requires in let k = p.held in ((k.shaped.rows_fit, p.fits), (k.table, k.holds))
+jumps-requires : tie.Need-jumps-js-requires
+jumps-requires c κs = let p = c.requires in let k = p.held in ((k.shaped.rows_fit, p.fits), (k.table, k.holds))
 
-returns : tie.Need-returns
+returns : tie.Need-returns-then-not-js
 returns c s j t ps is h shaped e n =
-    let a = c.before.before.before in
-    let g : Given a = record { s = s; j = j; t = t; ps = ps; is = is; holds = h; shaped = shaped } in
-    ended a g (unplanned j _ t (jumps_refused _ _ (jumps_are a g) (not-true _ c.before.if1.true))) (λ q. named_eight) c.refuse.ensures
+    let a = c in
+    let g : Given a.before.before.before = record { s = s; j = j; t = t; ps = ps; is = is; holds = h; shaped = shaped } in
+    ended a.before.before.before g (unplanned j _ t (jumps_refused _ _ (jumps_are a.before.before.before g) (not-true _ c.if-not-js.true))) (λ q. named_eight) c.refuse.ensures
 
-plan-step-requires : tie.Need-plan-step-requires
+plan-step-requires : tie.Need-plan_step-plan-requires
 plan-step-requires c κs =
-    let a = c.before.before in
-    let g = given a in
-    let js = jumped a g (not-false _ c.if1.false) in
+    let a = c in
+    let g = given a.before.before.before in
+    let js = jumped a.before.before.before g (not-false _ c.if-not-js.false) in
     let fit = jumps_fit g.j _ g.t js.answers in
     record {
       few = g.shaped.rows_fit;
-      jumps = record { of = js.of; is = js.is; fit = fit; count = jumps_length g.j _ g.t js.answers ∙ g.shaped.row_count };
+      jumps = record { of = js.of; is = js.is; fit = fit; count = jumps_length g.j _ g.t js.answers ∙ g.shaped.row_count_lem };
     }
 
-renew-rows-requires : tie.Need-renew-rows-requires
+renew-rows-requires : tie.Need-renew_rows-done-requires
 renew-rows-requires c κs =
-    let a = c.before.before in
-    let g = given (first (half a)) in
-    let w = works a g in
+    let a = c in
+    let g = given (first (half a.before.before.before)) in
+    let w = works a.before.before.before g in
     record {
-      ordered = omega (arith, f_is a g, l_is a g, w.works.spans.ordered);
-      below = omega (arith, l_is a g, within a g);
+      ordered = omega (arith, f_is a.before.before.before g, l_is a.before.before.before g, w.works.spans.ordered);
+      below = omega (arith, l_is a.before.before.before g, within a.before.before.before g);
       held = record { table = g.t; holds = g.holds; shaped = g.shaped };
-      unit = unit a g;
+      unit = unit a.before.before.before g;
     }
 
-returns-2 : tie.Need-returns-2
+returns-2 : tie.Need-returns-then-not-done
 returns-2 c s j t ps is h shaped e n =
-    let m = c.before.before.before.before in
-    let g : Given (first (half (told_at m))) = record { s = s; j = j; t = t; ps = ps; is = is; holds = h; shaped = shaped } in
-    leaves_unmade j _ t ps _ _ _ _ (works (told_at m) g).answers (left m g (not-true _ c.before.if2.true)) c.refuse4.ensures
+    let m = c in
+    let g : Given (first (half (told_at m.before.before.before.before))) = record { s = s; j = j; t = t; ps = ps; is = is; holds = h; shaped = shaped } in
+    leaves_unmade j _ t ps _ _ _ _ (works (told_at m.before.before.before.before) g).answers (left m.before.before.before.before g (c.if-not-done.true)) c.refuse-then-not-done.ensures
 
 undo-requires : tie.Need-undo-requires
 undo-requires c κs =
-    let a = told_at c.before.before.before in
+    let a = told_at c.before.before.before.before.before in
     let g = given (first (half a)) in
     let w = works a g in
     record {
       few = g.shaped.rows_fit;
-      jumps = record { of = w.of.jumps; is = jumps-same a g; fit = w.works.fit; long = omega (arith, w.works.count, g.shaped.row_count) };
-      coefficients = (start (first (half a))).pre.coefficients;
+      jumps = record { of = w.of.jumps; is = jumps-same a g; fit = w.works.fit; long = omega (arith, w.works.count, g.shaped.row_count_lem) };
+      coefficients = (start (first (half a))).requires.coefficients;
       ordered = omega (arith, f_is a g, l_is a g, w.works.spans.ordered);
       below = omega (arith, l_is a g, within a g);
       unit = unit a g;
       nonzero = nonzero a g;
     }
 
-returns-3 : tie.Need-returns-3
+returns-3 : tie.Need-returns-in-TooLarge
 returns-3 c s j t ps is h shaped e n =
-    let a = c.before.before.before in
-    let g : Given (first a) = record { s = s; j = j; t = t; ps = ps; is = is; holds = h; shaped = shaped } in
-    ended (first a) g (refused a g c.before.enum_told.given.1 (λ z. let q : ◌≡◌ {A = ℕ} 0 1 = cc in omega arith)) (λ q. named_eight) c.refuse2.ensures
+    let a = c in
+    let g : Given (first a.before.before) = record { s = s; j = j; t = t; ps = ps; is = is; holds = h; shaped = shaped } in
+    ended (first a.before.before) g (refused a.before.before g c.in-TooLarge.is (λ z. let q : ◌≡◌ {A = ℕ} 0 1 = cc in omega arith)) (λ q. named_eight) c.refuse-in-TooLarge.ensures
 
-returns-4 : tie.Need-returns-4
+returns-4 : tie.Need-returns-in-Shape
 returns-4 c s j t ps is h shaped e n =
-    let a = c.before.before.before in
-    let g : Given (first a) = record { s = s; j = j; t = t; ps = ps; is = is; holds = h; shaped = shaped } in
-    ended (first a) g (refused a g c.before.enum-told2.given.1 (λ z. let q : ◌≡◌ {A = ℕ} 0 1 = cc in omega arith)) (λ q. named_nine) c.refuse3.ensures
+    let a = c in
+    let g : Given (first a.before.before) = record { s = s; j = j; t = t; ps = ps; is = is; holds = h; shaped = shaped } in
+    ended (first a.before.before) g (refused a.before.before g c.in-Shape.is (λ z. let q : ◌≡◌ {A = ℕ} 0 1 = cc in omega arith)) (λ q. named_nine) c.refuse-in-Shape.ensures
 
-returns-5 : tie.Need-returns-5
+returns-5 : tie.Need-returns-else-not-done
 returns-5 c s j t ps is h shaped e n =
-    let m = c.before.before.before.before in
-    let a = told_at m in
+    let m = c in
+    let a = told_at m.before.before.before.before.before.before in
     let g : Given (first (half a)) = record { s = s; j = j; t = t; ps = ps; is = is; holds = h; shaped = shaped } in
     let w = works a g in
-    leaves_made j _ t ps _ _ _ _ w.answers h.num_long h.den_long (left m g (not-false _ c.before.if2.false))
-    (c.undo.ensures j w.of.jumps w.of.factors ps (jumps-same a g) w.factors_are e (w.works.count ∙ shaped.row_count) n
+    leaves_made j _ t ps _ _ _ _ w.answers h.num_long h.den_long (left m.before.before.before.before.before.before g (c.if-not-done.false))
+    (c.undo.ensures j w.of.jumps w.of.factors ps (jumps-same a g) w.factors_are e (w.works.count ∙ shaped.row_count_lem) n
     ∙ ap (λ (x : Span). coefficients_of (undoing j (record { jumps = w.of.jumps; span = x; factors = w.of.factors }) ps)) w.span_is)
 
-pub recover-step-spec : {M : Type 1} → statement M
-recover-step-spec =
+pub recover_step_spec : {M : Type 1} → statement M
+recover_step_spec =
     tie.close (tie.spec jumps-requires (λ c κs. search rules) (λ c. search rules) (λ c. search rules) returns plan-step-requires
     (λ c. search rules) (λ c κs. search rules) (λ c. search rules) (λ c κs. search rules) (λ c. search rules) renew-rows-requires
     (λ c κs. search rules) (λ c. search rules) (λ c. search rules) returns-2 undo-requires (λ c. search rules) (λ c. search rules) returns-3

@@ -7,7 +7,7 @@ use Rattle.recover_joins.proofs.refuse.Statement.{statement}
 use Rattle.recover_joins.proofs.refuse.Tie as tie
 
 returns : tie.Need-returns
-returns c = ap (λ (none : Fractions). record { refusal = refusals.Refused c.before.args.code; of = none }) c.no-fractions.ensures
+returns c = ap (λ (none : Fractions). record { refusal = refusals.Refused c.args.code; of = none }) c.no_fractions.ensures
 
-pub refuse-spec : {M : Type 1} → statement M
-refuse-spec = tie.close (tie.spec (λ c κs. search rules) returns)
+pub refuse_spec : {M : Type 1} → statement M
+refuse_spec = tie.close (tie.spec (λ c κs. search rules) returns)

@@ -18,32 +18,32 @@ abbrev segmented : tie.Start → Space
 segmented s = space [] s.args.degrees.now []
 
 -- as many as the columns
-counted : (c : tie.Else1) → length c.before.before.args.ordinates.now ≡ column_count (segmented c.before.before)
-counted c = c.if1.false ∙ c.before.first-column.ensures
+counted : (c : tie.Else-ordinates-first_column) → length c.args.ordinates.now ≡ column_count (segmented c.before.before)
+counted c = c.if-ordinates-first_column.false ∙ c.first_column.ensures
 
-found-bad : (c : tie.After-bad) → let b = c.before.before.before.before.before.args.ordinates.now in first (length b) (bad_ordinate b) ≡ some c.bad.given.0.0
-found-bad c = let b = c.before.before.before.before.before.args.ordinates.now in ap (first (length b)) (ordinate-outside b)
-    ∙ found_some_inverts _ (sym c.before.before.first-outside.ensures ∙ c.bad.given.1)
+found-bad : (c : tie.In-At) → let b = c.args.ordinates.now in first (length b) (bad_ordinate b) ≡ some c.in-At.i
+found-bad c = let b = c.args.ordinates.now in ap (first (length b)) (ordinate-outside b)
+    ∙ found_some_inverts _ (sym c.first_outside-bad.ensures ∙ c.in-At.is)
 
-none-bad : (c : tie.After-enum-told) → let b = c.before.before.before.before.before.args.ordinates.now in first (length b) (bad_ordinate b) ≡ none
-none-bad c = let b = c.before.before.before.before.before.args.ordinates.now in ap (first (length b)) (ordinate-outside b)
-    ∙ found-none_inverts _ (sym c.before.before.first-outside.ensures ∙ c.enum_told.given.1)
+none-bad : (c : tie.In-Nothing) → let b = c.args.ordinates.now in first (length b) (bad_ordinate b) ≡ none
+none-bad c = let b = c.args.ordinates.now in ap (first (length b)) (ordinate-outside b)
+    ∙ found-none_inverts _ (sym c.first_outside-bad.ensures ∙ c.in-Nothing.is)
 
-returns : tie.Need-returns
-returns c = sym (refusal_refused _ (ordinates-count (segmented c.before.before) c.before.before.args.ordinates.now (λ e. c.if1.true (e ∙ sym c.before.first-column.ensures))))
+returns : tie.Need-returns-then-ordinates-first_column
+returns c = sym (refusal_refused _ (ordinates-count (segmented c.before.before) c.args.ordinates.now (λ e. c.if-ordinates-first_column.true (e ∙ sym c.first_column.ensures))))
 
-returns-2 : tie.Need-returns-2
+returns-2 : tie.Need-returns-in-At
 returns-2 c =
-    let b = c.before.before.before.before.before in let s = b.before.before in
-    sym (refusal_refused _ (ordinates_refused (segmented s) s.args.ordinates.now (counted b)
-    (found-bad c.before.before) ∙ ap (refusal 18) (sym c.place.ensures)))
+    let b = c in let s = b in
+    sym (refusal_refused _ (ordinates_refused (segmented s.before.before.before.before.before) s.args.ordinates.now (counted b.before.before.before)
+    (found-bad c.before) ∙ ap (refusal 18) (sym c.place.ensures)))
 
-returns-3 : tie.Need-returns-3
+returns-3 : tie.Need-returns-in-Nothing
 returns-3 c =
-    let s = c.before.before.before.before.before in
-    sym (answer_legal _ (ordinates-pass (segmented s) s.args.ordinates.now (counted c.before.before.before) (none-bad c)))
+    let s = c in
+    sym (answer_legal _ (ordinates-pass (segmented s.before.before.before.before) s.args.ordinates.now (counted c.before.before) (none-bad c)))
 
-pub check-ordinates-spec : {M : Type 1} → statement M
-check-ordinates-spec =
+pub check_ordinates_spec : {M : Type 1} → statement M
+check_ordinates_spec =
     tie.close (tie.spec (λ c κs. search rules) returns (λ c. search rules) (λ c κs. search rules) (λ c. search rules) (λ c κs. search rules)
     (λ c. search rules) returns-2 returns-3)

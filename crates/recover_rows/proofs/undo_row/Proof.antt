@@ -36,23 +36,23 @@ module _ (j : ℕ) (us ps : List ℚ) (f i : ℕ) where
       next = omega (arith, h)
 
 -- where the function begins, before the row's own coefficient is read
-abbrev begun : tie.After-fraction-at → tie.Start
-begun a = a.before.before.before.before
+abbrev begun : tie.After-fraction_at-coefficient → tie.Start
+begun a = a.before.before.before
 
-returns : tie.Need-returns
+returns : tie.Need-returns-then-i-f
 unfolding counted
 returns c j us ps e h =
-    let a = c.before in
-    let s = (begun a).args in
-    ap Fits (a.fraction-at.ensures ps h) ∙ sym (ap counted (first-row j us ps s.f s.i c.if1.true))
+    let a = c in
+    let s = (begun a.before).args in
+    ap Fits (a.fraction_at-coefficient.ensures ps h) ∙ sym (ap counted (first-row j us ps s.f s.i c.if-i-f.true))
 
 -- the row's coefficient, its factor and the coefficient of the row before are read
-module _ (c : tie.After-fraction-at3) where
-  abbrev factor-read : tie.After-fraction-at2
-  factor-read = c.before.before.before.before
+module _ (c : tie.After-fraction_at-before) where
+  abbrev factor-read : tie.After-fraction_at-factor
+  factor-read = c.before.before.before
 
-  abbrev own : tie.After-fraction-at
-  own = factor-read.before.before.before.before.before
+  abbrev own : tie.After-fraction_at-coefficient
+  own = factor-read.before.before.before.before
 
   abbrev start : tie.Start
   start = begun own
@@ -64,18 +64,18 @@ module _ (c : tie.After-fraction-at3) where
   i = start.args.i
 
   later : f < i
-  later = omega (arith, start.pre.order, factor-read.before.before.before.before.if1.left)
+  later = omega (arith, start.requires.order, factor-read.if-i-f.false)
 
-  coefficient_is : (ps : List ℚ) → start.args.t1 ≡ fractions ps → own.fraction-at.result ≡ fraction (entry ps i)
-  coefficient_is ps h = own.fraction-at.ensures ps h
+  coefficient_is : (ps : List ℚ) → start.args.cs ≡ fractions ps → own.fraction_at-coefficient.result ≡ fraction (entry ps i)
+  coefficient_is ps h = own.fraction_at-coefficient.ensures ps h
 
-  factor_is : (us : List ℚ) → start.args.t2 ≡ fractions us → factor-read.fraction-at2.result ≡ fraction (entry us (i - f))
-  factor_is us e = factor-read.fraction-at2.ensures us e
+  factor_is : (us : List ℚ) → start.args.ws ≡ fractions us → factor-read.fraction_at-factor.result ≡ fraction (entry us (i - f))
+  factor_is us e = factor-read.fraction_at-factor.ensures us e
 
-  before_is : (ps : List ℚ) → start.args.t1 ≡ fractions ps → c.fraction-at3.result ≡ fraction (entry ps (i - 1))
-  before_is ps h = c.fraction-at3.ensures ps h
+  before_is : (ps : List ℚ) → start.args.cs ≡ fractions ps → c.fraction_at-before.result ≡ fraction (entry ps (i - 1))
+  before_is ps h = c.fraction_at-before.ensures ps h
 
-undo-coefficient-requires : tie.Need-undo-coefficient-requires
+undo-coefficient-requires : tie.Need-undo_coefficient-requires
 unfolding fraction
 undo-coefficient-requires c κs =
     let p = (start c).requires in
@@ -90,14 +90,14 @@ undo-coefficient-requires c κs =
       before-fits = rw (before_is c n.of n.is) (fits-sized _ (n.fit (i c - 1)));
     }
 
-returns-2 : tie.Need-returns-2
+returns-2 : tie.Need-returns
 returns-2 c j us ps e h =
-    let b = c.before in
-    c.undo-coefficient.ensures j (entry us (i b - f b)) (entry ps (i b)) (entry ps (i b - 1))
-    (factor_is b us e) (coefficient_is b ps h) (before_is b ps h)
-    ∙ sym (ap counted (later-row j us ps (f b) (i b) (later b)))
+    let b = c in
+    c.undo_coefficient.ensures j (entry us (i b.before - f b.before)) (entry ps (i b.before)) (entry ps (i b.before - 1))
+    (factor_is b.before us e) (coefficient_is b.before ps h) (before_is b.before ps h)
+    ∙ sym (ap counted (later-row j us ps (f b.before) (i b.before) (later b.before)))
 
-pub undo-row-spec : {M : Type 1} → statement M
-undo-row-spec =
+pub undo_row_spec : {M : Type 1} → statement M
+undo_row_spec =
     tie.close (tie.spec (λ c κs. search rules) returns (λ c. search rules) (λ c κs. search rules) (λ c. search rules)
     (λ c κs. search rules) undo-coefficient-requires returns-2)

@@ -42,13 +42,13 @@ record Inv (ws cs : Fractions) (f l : ℕ) (now : Fractions) (i : ℕ) : Type 0 
   within : i ≤ l
   state : (j : ℕ) (us ps : List ℚ) → ws ≡ fractions us → cs ≡ fractions ps → l ≤ length ps → State j us ps f i now
 
-abbrev invariant-loop : tie.invariant-loop
+abbrev invariant-loop : tie.invariant-loop-i
 invariant-loop ws f l now₀ i₀ now i = Inv ws now₀ f l now i
 
-abbrev decreases-loop : tie.decreases-loop
+abbrev decreases-loop : tie.decreases-loop-i
 decreases-loop ws f l now₀ i₀ now i = l - i
 
-loop-holds : tie.Need-loop-init invariant-loop decreases-loop
+loop-holds : tie.Need-loop-i-init invariant-loop decreases-loop
 loop-holds c =
     let f = c.args.f in
     record {
@@ -63,102 +63,102 @@ loop-holds c =
     }
 
 -- the state at a turn, and what it says
-module _ (a : tie.At-loop invariant-loop decreases-loop) (inside : a.loop.i < a.before.args.l) (j : ℕ) (us ps : List ℚ) (e : a.before.args.ws ≡ fractions us)
+module _ (a : tie.At-loop-i invariant-loop decreases-loop) (inside : a.loop-i.i < a.before.args.l) (j : ℕ) (us ps : List ℚ) (e : a.before.args.ws ≡ fractions us)
     (h : a.before.args.cs ≡ fractions ps) (long : a.before.args.l ≤ length ps) where
   abbrev f : ℕ
-  f = a.before.args.f
+  f = a.args.f
 
   abbrev i : ℕ
-  i = a.loop.i
+  i = a.loop-i.i
 
-  st : State j us ps f i a.loop.now
-  st = a.loop.inv.state j us ps e h long
+  st : State j us ps f i a.loop-i.now
+  st = a.loop-i.invariant.state j us ps e h long
 
   size : length st.new ≡ i - f
   size = (rows-undone j us ps f (i - f) st.answers).size
 
-  present_fit : AllFit ps → FractionsFit a.loop.now (suc i)
+  present_fit : AllFit ps → FractionsFit a.loop-i.now (suc i)
   present_fit p = record {
     of = renewed f ps st.new i;
     is = st.is;
-    fit = renewed_fit f i ps st.new a.loop.inv.passed (omega arith) size p (st.fit p);
-    long = omega (arith, inside, long, renewed_length f i ps st.new a.loop.inv.passed (omega arith) size);
+    fit = renewed_fit f i ps st.new a.loop-i.invariant.passed (omega arith) size p (st.fit p);
+    long = omega (arith, inside, long, renewed_length f i ps st.new a.loop-i.invariant.passed (omega arith) size);
   }
 
   same : undone_row j us (renewed f ps st.new i) f (i - f) (drop f (renewed f ps st.new i)) ≡ undone_row j us ps f (i - f) st.new
-  same = row_same f i ps st.new a.loop.inv.passed (omega arith) size j us
+  same = row_same f i ps st.new a.loop-i.invariant.passed (omega arith) size j us
 
-undo-row-requires : tie.Need-undo-row-requires invariant-loop decreases-loop
+undo-row-requires : tie.Need-undo_row-next-requires invariant-loop decreases-loop
 undo-row-requires c κs =
-    let a = c.before in
-    let p = a.before.requires in
+    let a = c in
+    let p = a.requires in
     let u = p.factors in
     let n = p.coefficients in
     record {
-      order = a.loop.invariant.passed;
+      order = a.loop-i.invariant.passed;
       within = omega arith;
-      coefficients = present_fit a c.loop-test.true 0 u.of n.of u.is n.is n.long n.fit;
+      coefficients = present_fit a.before c.loop-i-test.true 0 u.of n.of u.is n.is n.long n.fit;
       factors = u;
       nonzero = λ us e d h. p.nonzero us e d (omega arith);
     }
 
-returns : tie.Need-returns invariant-loop decreases-loop
+returns : tie.Need-returns-in-TooLarge invariant-loop decreases-loop
 unfolding undone_of
 returns c j us ps e h long =
-    let r = c.before.before.before in
-    let a = r.before.before in
-    let s = a.before.args in
-    let y = st a r.before.loop-test.true j us ps e h long in
-    let x = large_refused (undone_row j us ps s.f (a.loop.i - s.f) y.new)
-    (ap counted (sym (same a r.before.loop-test.true j us ps e h long)) ∙ sym (r.undo-row.ensures j us _ e y.is)
-    ∙ c.before.enum_told.given.1) in
-    ap (λ (none : Fractions). record { fit = false; coefficients = none }) c.no-fractions.ensures
+    let r = c in
+    let a = r in
+    let s = a.args in
+    let y = st a.before.before.before.before r.loop-i-test.true j us ps e h long in
+    let x = large_refused (undone_row j us ps s.f (a.loop-i.i - s.f) y.new)
+    (ap counted (sym (same a.before.before.before.before r.loop-i-test.true j us ps e h long)) ∙ sym (r.undo_row-next.ensures j us _ e y.is)
+    ∙ c.in-TooLarge.is) in
+    ap (λ (none : Fractions). record { fit = false; coefficients = none }) c.no_fractions.ensures
     ∙ sym (ap (λ (o : Outcome (List ℚ)). undone_of (with_answer (λ ds. take s.f ps ++ (ds ++ drop s.l ps)) o))
-    (rows_stay j us ps s.f (suc (a.loop.i - s.f)) (s.l - s.f) (omega arith)
-    (rows_end j us ps s.f (a.loop.i - s.f) y.answers x.refuses)))
+    (rows_stay j us ps s.f (suc (a.loop-i.i - s.f)) (s.l - s.f) (omega arith)
+    (rows_end j us ps s.f (a.loop-i.i - s.f) y.answers x.refuses)))
 
-loop-again : tie.Need-loop-preserved invariant-loop decreases-loop
+loop-again : tie.Need-loop-i-preserved invariant-loop decreases-loop
 loop-again c =
-    let k = c.before.before.before.next.given in
-    let r = c.before.before.before.before.before in
-    let a = r.before.before in
-    let s = a.before.args in
-    let n : SFits w64 k.0.0.num = record { sfits = c.struct-told2.given.0.1 } in
-    let d : SFits w64 k.0.0.den = record { sfits = c.struct-told2.given.1.0.1 } in
+    let k = c.in-Fits in
+    let r = c in
+    let a = r in
+    let s = a.args in
+    let n : SFits w64 k.q.num = record { sfits = c.struct_told-in-Fits-1.given.0.1 } in
+    let d : SFits w64 k.q.den = record { sfits = c.struct_told-in-Fits-1.given.1.0.1 } in
     record {
       passed = omega arith;
       within = omega arith;
       state = λ j us ps e h long.
-          let t = r.before.loop-test.true in
-          let y = st a t j us ps e h long in
-          let z = size a t j us ps e h long in
-          let x = fits_answered (undone_row j us ps s.f (a.loop.i - s.f) y.new) k.0.0 (ap counted (sym (same a t j us ps e h long)) ∙ sym (r.undo-row.ensures j us _ e y.is) ∙ k.1) in
+          let t = r.loop-i-test.true in
+          let y = st a.before.before.before.before.before t j us ps e h long in
+          let z = size a.before.before.before.before.before t j us ps e h long in
+          let x = fits_answered (undone_row j us ps s.f (a.loop-i.i - s.f) y.new) k.q (ap counted (sym (same a.before.before.before.before.before t j us ps e h long)) ∙ sym (r.undo_row-next.ensures j us _ e y.is) ∙ k.is) in
           record {
-            new = y.new ++ (value k.0.0 ∷ []);
-            answers = ap (undone_rows j us ps s.f) (let q : a.loop.i + 1 - s.f ≡ suc (a.loop.i - s.f) = omega arith in q)
-                ∙ rows_more j us ps s.f (a.loop.i - s.f) y.answers x.answers;
+            new = y.new ++ (value k.q ∷ []);
+            answers = ap (undone_rows j us ps s.f) (let q : a.loop-i.i + 1 - s.f ≡ suc (a.loop-i.i - s.f) = omega arith in q)
+                ∙ rows_more j us ps s.f (a.loop-i.i - s.f) y.answers x.answers;
             is = (simp to_z-of_z
-                (fractions_store (renewed s.f ps y.new a.loop.i) (renewed s.f ps (y.new ++ (value k.0.0 ∷ [])) (suc a.loop.i)) (value k.0.0) a.loop.i (omega arith)
-                (more_here s.f a.loop.i ps y.new a.loop.invariant.passed (omega arith) z (value k.0.0) (omega arith))
-                (λ m l q. more_other s.f a.loop.i ps y.new a.loop.invariant.passed (omega arith) z (value k.0.0) (omega arith) m q)
-                a.loop.now k.0.0 y.is x.lowest))
-                ∙ ap (λ m. fractions (renewed s.f ps (y.new ++ (value k.0.0 ∷ [])) m)) (sym (add-one a.loop.i));
-            fit = λ p. more_fit y.new (value k.0.0) (y.fit p) (undone-fits j us ps s.f (a.loop.i - s.f) y.new (p s.f) x.answers);
+                (fractions_store (renewed s.f ps y.new a.loop-i.i) (renewed s.f ps (y.new ++ (value k.q ∷ [])) (suc a.loop-i.i)) (value k.q) a.loop-i.i (omega arith)
+                (more_here s.f a.loop-i.i ps y.new a.loop-i.invariant.passed (omega arith) z (value k.q) (omega arith))
+                (λ m l q. more_other s.f a.loop-i.i ps y.new a.loop-i.invariant.passed (omega arith) z (value k.q) (omega arith) m q)
+                a.loop-i.now k.q y.is x.lowest))
+                ∙ ap (λ m. fractions (renewed s.f ps (y.new ++ (value k.q ∷ [])) m)) (sym (add-one a.loop-i.i));
+            fit = λ p. more_fit y.new (value k.q) (y.fit p) (undone-fits j us ps s.f (a.loop-i.i - s.f) y.new (p s.f) x.answers);
           };
     }
 
-returns-2 : tie.Need-returns-2 invariant-loop decreases-loop
+returns-2 : tie.Need-returns invariant-loop decreases-loop
 unfolding undone_of
 returns-2 c j us ps e h long =
-    let l = c.before.loop in
-    let s = c.before.before.args in
+    let l = c.loop-i in
+    let s = c.args in
     let y = l.invariant.state j us ps e h long in
     ap (λ (now : Fractions). record { fit = true; coefficients = now }) (y.is ∙ ap (λ m. fractions (renewed s.f ps y.new m)) (let z : l.i ≡ s.l = omega arith in z))
     ∙ sym (ap (λ (o : Outcome (List ℚ)). undone_of (with_answer (λ ds. take s.f ps ++ (ds ++ drop s.l ps)) o))
     (ap (λ m. undone_rows j us ps s.f (m - s.f)) (let z : s.l ≡ l.i = omega arith in z) ∙ y.answers))
 
-pub undo-rows-spec : {M : Type 1} → statement M
-undo-rows-spec =
+pub undo_rows_spec : {M : Type 1} → statement M
+undo_rows_spec =
     tie.close (tie.spec invariant-loop decreases-loop loop-holds undo-row-requires (λ c. search rules) (λ c. omega arith) (λ c. omega arith)
     (λ c. omega arith) (λ c. omega arith) (λ c. search rules) (λ c κs. search rules) returns (λ c. omega arith) (λ c. omega arith)
     loop-again returns-2)

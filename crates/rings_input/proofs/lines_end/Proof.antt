@@ -9,50 +9,50 @@ use Rattle.rings_input.proofs.Parts.{no_lines, no_line, one_line, stop_within}
 use Rattle.rings_input.proofs.lines_end.Statement.{statement}
 use Rattle.rings_input.proofs.lines_end.Tie as tie
 
-abbrev invariant-loop : tie.invariant-loop
+abbrev invariant-loop : tie.invariant-loop-left
 invariant-loop text from count end at₀ left₀ at left = (at ≤ length text) × (from + lines_end count (drop from text) ≡ at + lines_end left (drop at text))
 
-abbrev decreases-loop : tie.decreases-loop
+abbrev decreases-loop : tie.decreases-loop-left
 decreases-loop text from count end at₀ left₀ at left = left
 
 -- a turn of the loop, where the search has ended
-module _ (k : tie.After-find invariant-loop decreases-loop) where
+module _ (k : tie.After-find-stop invariant-loop decreases-loop) where
   abbrev text : Text
-  text = k.before.before.before.before.args.text.now
+  text = k.args.text.now
 
   abbrev at : ℕ
-  at = k.before.before.loop.at
+  at = k.loop-left.at
 
   abbrev left : ℕ
-  left = k.before.before.loop.left
+  left = k.loop-left.left
 
   within : at ≤ length text
-  within = k.before.before.loop.inv.0
+  within = k.loop-left.invariant.0
 
-  stop_within-text : k.find.result ≤ length text
-  stop_within-text = omega (arith, k.find.ensures, stop_within text at within left)
+  stop_within-text : k.find-stop.result ≤ length text
+  stop_within-text = omega (arith, k.find-stop.ensures, stop_within text at within left)
 
-returns : tie.Need-returns invariant-loop decreases-loop
+returns : tie.Need-returns-then-stop-end invariant-loop decreases-loop
 returns c =
-    let k = c.before in (
-      omega (arith, k.before.before.loop.invariant.1, no_line (text k) (at k) (within k) (left k) k.before.loop-test.true (omega (arith, k.find.ensures))),
+    let k = c in (
+      omega (arith, k.loop-left.invariant.1, no_line (text k.before) (at k.before) (within k.before) (left k.before) k.loop-left-test.true (omega (arith, k.find-stop.ensures))),
       omega arith,
     )
 
-loop-again : tie.Need-loop-preserved invariant-loop decreases-loop
+loop-again : tie.Need-loop-left-preserved invariant-loop decreases-loop
 loop-again c =
-    let k = c.before in
-    let less : k.find.result < length (text k) = omega (arith, stop_within-text k, c.if1.false) in
-    let turn = one_line (text k) (at k) (within k) (left k) k.before.loop-test.true (omega (arith, k.find.ensures)) in
-    (omega arith, k.before.before.loop.invariant.1 ∙ turn ∙ ap (λ (n : ℕ). n + 1 + lines_end (left k - 1) (drop (n + 1) (text k))) (sym k.find.ensures))
+    let k = c in
+    let less : k.find-stop.result < length (text k.before) = omega (arith, stop_within-text k.before, c.if-stop-end.false) in
+    let turn = one_line (text k.before) (at k.before) (within k.before) (left k.before) k.loop-left-test.true (omega (arith, k.find-stop.ensures)) in
+    (omega arith, k.loop-left.invariant.1 ∙ turn ∙ ap (λ (n : ℕ). n + 1 + lines_end (left k.before - 1) (drop (n + 1) (text k.before))) (sym k.find-stop.ensures))
 
-returns-2 : tie.Need-returns-2 invariant-loop decreases-loop
+returns-2 : tie.Need-returns invariant-loop decreases-loop
 returns-2 c =
-    let l = c.before.loop in
-    (omega (arith, l.invariant.1, no_lines (drop l.at c.before.before.before.args.text.now) l.left (omega arith)), l.invariant.0)
+    let l = c.loop-left in
+    (omega (arith, l.invariant.1, no_lines (drop l.at c.args.text.now) l.left (omega arith)), l.invariant.0)
 
-pub lines-end-spec : {M : Type 1} → statement M
-lines-end-spec =
-    tie.close (tie.spec invariant-loop decreases-loop (λ c. (c.before.requires, refl))
-    (λ c κs. record { ordered = c.before.loop.invariant.0; within = omega arith }) returns
-    (λ c. let k = c.before in omega (arith, stop_within-text k, c.if1.false)) (λ c. omega arith) (λ c. omega arith) loop-again returns-2)
+pub lines_end_spec : {M : Type 1} → statement M
+lines_end_spec =
+    tie.close (tie.spec invariant-loop decreases-loop (λ c. (c.requires, refl))
+    (λ c κs. record { ordered = c.loop-left.invariant.0; within = omega arith }) returns
+    (λ c. let k = c in omega (arith, stop_within-text k.before, c.if-stop-end.false)) (λ c. omega arith) (λ c. omega arith) loop-again returns-2)

@@ -4,18 +4,18 @@ use Rattle.rings_read.proofs.Held.{curve_refused, curve_legal}
 use Rattle.rings_read.proofs.check_curve.Statement.{statement}
 use Rattle.rings_read.proofs.check_curve.Tie as tie
 
-returns : tie.Need-returns
+returns : tie.Need-returns-in-Refused
 returns c =
-    let k = c.before.before.before.before.before.before in
-    curve_refused _ _ k.curve.result k.curve.ensures.0 c.before.answer.given.1
+    let k = c in
+    curve_refused _ _ k.curve-answer.result k.curve-answer.ensures.0 c.in-Refused.is
 
-returns-2 : tie.Need-returns-2
+returns-2 : tie.Need-returns-in-Count
 returns-2 c =
-    let k = c.before.before.before.before.before in
-    curve_legal _ _ k.curve.result k.curve.ensures.0 c.enum_told.given.1
+    let k = c in
+    curve_legal _ _ k.curve-answer.result k.curve-answer.ensures.0 c.in-Count.is
 
-pub check-curve-spec : {M : Type 1} → statement M
-check-curve-spec =
+pub check_curve_spec : {M : Type 1} → statement M
+check_curve_spec =
     tie.close
     (tie.spec
     (λ c. search rules)

@@ -20,70 +20,70 @@ use Rattle.rings_read.proofs.judge_file.Statement.{statement}
 use Rattle.rings_read.proofs.judge_file.Tie as tie
 
 -- where the series have been read
-module _ (k : tie.After-read-series) where
+module _ (k : tie.After-read_series-series) where
   abbrev text : Text
-  text = k.before.before.before.before.before.before.args.text.now
+  text = k.args.text.now
 
   abbrev curve : Outcome CurveResult
   curve =
-      let x = k.before.before.before.before.before.before.args in
+      let x = k.args in
       curve_alone (space (take x.b x.breaks.now) (take x.d x.degrees.now) (take x.o x.orders.now)) (take x.c x.coefs.now)
       table_cells table_cells
 
   abbrev names : List ℕ
-  names = k.read-series.last.1.0
+  names = k.read_series-series.new.names
 
   abbrev years : List ℤ
-  years = k.read-series.last.1.1.0
+  years = k.read_series-series.new.years
 
   abbrev counts : List ℕ
-  counts = k.read-series.last.1.1.1.0
+  counts = k.read_series-series.new.counts
 
   abbrev widths : List ℤ
-  widths = k.read-series.last.1.1.1.1.0
+  widths = k.read_series-series.new.widths
 
-  read : (a : Answer) → k.read-series.result ≡ a → SeriesHeld (series_read text) a names years counts widths
-  read a e = subst (λ (a : Answer). SeriesHeld (series_read text) a names years counts widths) e k.read-series.ensures
+  read : (a : Answer) → k.read_series-series.result ≡ a → SeriesHeld (series_read text) a names years counts widths
+  read a e = subst (λ (a : Answer). SeriesHeld (series_read text) a names years counts widths) e k.read_series-series.ensures
 
-slice-aggregate-check-curve : tie.Need-slice-aggregate-check-curve
+slice-aggregate-check-curve : tie.Need-slice_bounds-check_curve-end
 slice-aggregate-check-curve c =
-    let s = c.before.before.before.before.before.before.before.before.before.before in
+    let s = c in
     sym (length-take-le s.args.b s.args.breaks.now s.requires.breaks_fit)
 
-slice-aggregate-check-curve-2 : tie.Need-slice-aggregate-check-curve-2
+slice-aggregate-check-curve-2 : tie.Need-slice_bounds-check_curve-end-in-Count
 slice-aggregate-check-curve-2 c =
-    let s = c.before.before.before.before.before.before.before.before.before.before.before in
+    let s = c in
     sym (length-take-le s.args.d s.args.degrees.now s.requires.degrees_fit)
 
-slice-aggregate-check-curve-3 : tie.Need-slice-aggregate-check-curve-3
+slice-aggregate-check-curve-3 : tie.Need-slice_bounds-check_curve-end-in-Count-2
 slice-aggregate-check-curve-3 c =
-    let s = c.before.before.before.before.before.before.before.before.before.before.before.before in
+    let s = c in
     sym (length-take-le s.args.o s.args.orders.now s.requires.orders_fit)
 
-slice-aggregate-check-curve-4 : tie.Need-slice-aggregate-check-curve-4
+slice-aggregate-check-curve-4 : tie.Need-slice_bounds-check_curve-end-in-Count-3
 slice-aggregate-check-curve-4 c =
-    let s = c.before.before.before.before.before.before.before.before.before.before.before.before.before in
+    let s = c in
     sym (length-take-le s.args.c s.args.coefs.now s.requires.coefs_fit)
 
-returns : tie.Need-returns
+returns : tie.Need-returns-in-Refused
 returns c =
-    let k = c.before.before.before in
-    file_refused (series_read (text k)) (curve k) (names k) (years k) (counts k) (widths k) _ _ (read k _ c.before.series.given.1)
+    let k = c in
+    file_refused (series_read (text k.before)) (curve k.before) (names k.before) (years k.before) (counts k.before) (widths k.before) _ _ (read k.before _ c.in-Refused.is)
 
-returns-2 : tie.Need-returns-2
+returns-2 : tie.Need-returns-in-Refused-legal
 returns-2 c =
-    let r = c.before.before.before.before.before.before.before.before.before in let k = r.before.before in
-    curve_refused (series_read (text k)) (curve k) (names k) (years k) (counts k) (widths k) _ _ _ (read k _ r.series2.given.1)
-    (sym c.before.legal.given.1 ∙ c.before.before.before.check-curve.ensures)
+    let r = c in let k = r in
+    curve_refused (series_read (text k.before.before.before)) (curve k.before.before.before) (names k.before.before.before) (years k.before.before.before) (counts k.before.before.before) (widths k.before.before.before) _ _ _ (read k.before.before.before _ r.in-Count.is)
+    (sym c.in-Refused-legal.is ∙ c.check_curve-legal.ensures)
 
-returns-3 : tie.Need-returns-3
+returns-3 : tie.Need-returns-in-Legal
 returns-3 c =
-    let r = c.before.before.before.before.before.before.before.before in let k = r.before.before in
-    file_held (series_read (text k)) (curve k) (names k) (years k) (counts k) (widths k) _ (read k _ r.series2.given.1)
-    (sym c.enum_told.given.1 ∙ c.before.before.check-curve.ensures)
+    let r = c in let k = r in
+    file_held (series_read (text k.before.before.before)) (curve k.before.before.before) (names k.before.before.before) (years k.before.before.before) (counts k.before.before.before) (widths k.before.before.before) _ (read k.before.before.before _ r.in-Count.is)
+    (sym c.in-Legal.is ∙ c.check_curve-legal.ensures)
 
-pub judge-file-spec : {M : Type 1} → statement M
-judge-file-spec =
+pub judge_file_spec : {M : Type 1} → statement M
+judge_file_spec =
     tie.close
     (tie.spec
     (λ c κs. search rules)

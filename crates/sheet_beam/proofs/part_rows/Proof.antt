@@ -15,7 +15,7 @@ use Rattle.sheet_beam.proofs.part_rows.Statement.{statement}
 use Rattle.sheet_beam.proofs.part_rows.Tie as tie
 
 -- where it has returned
-module _ (k : tie.After-build-part) where
+module _ (k : tie.After-build_part-built) where
   abbrev start : tie.Start
   start = k.before.before.before
 
@@ -23,20 +23,20 @@ module _ (k : tie.After-build-part) where
   beam = let x = start.args in space x.breaks.now x.degrees.now x.orders.now
 
   abbrev num_now : List ℤ
-  num_now = k.build-part.last.1.1.1.1.1.0
+  num_now = k.build_part-built.new.num
 
   abbrev den_now : List ℤ
-  den_now = k.build-part.last.1.1.1.1.1.1.0
+  den_now = k.build_part-built.new.den
 
   abbrev Left : Space → Type 0
-  Left p = Ends (weights p) (row_count p) k.build-part.result start.args.num.now start.args.den.now num_now den_now
+  Left p = Ends (weights p) (row_count p) k.build_part-built.result start.args.num.now start.args.den.now num_now den_now
 
   left : Left (part_at beam start.args.a)
-  left = let a = start.args.a in subst (λ (b : ℕ). Left (section beam a (b - a))) start.pre.ends k.build-part.ensures
+  left = let a = start.args.a in subst (λ (b : ℕ). Left (section beam a (b - a))) start.requires.ends k.build_part-built.ensures
 
-build-part-requires : tie.Need-build-part-requires
+build-part-requires : tie.Need-build_part-built-requires
 build-part-requires c κs =
-    let p = c.before.before.requires in
+    let p = c.requires in
     record {
       legal = beam_legal _ p.accepted;
       part = record { starts = p.starts; ends = p.ends };
@@ -44,23 +44,23 @@ build-part-requires c κs =
       rest = record { few = omega arith; clear = record { zeros = λ k h l. absurd (omega arith); ones = λ k h l. absurd (omega arith) } };
     }
 
-returns : tie.Need-returns
+returns : tie.Need-returns-in-Count
 returns c =
-    let k = c.before.before.before.before.before in
-    let p = (start k).requires in
+    let k = c in
+    let p = (start k.before.before.before).requires in
     record {
-      rows_are = rows_told (beam k) p.accepted _ p.starts k.build-part.result _ (left k).answers c.before.built.given.1;
-      num_is = (left k).numerators_are;
-      den_is = (left k).denominators_are;
+      rows_are = rows_told (beam k.before.before.before) p.accepted _ p.starts k.build_part-built.result _ (left k.before.before.before).answers c.in-Count.is;
+      num_is = (left k.before.before.before).numerators_are;
+      den_is = (left k.before.before.before).denominators_are;
     }
 
-returns-2 : tie.Need-returns-2
+returns-2 : tie.Need-returns-in-Refused
 returns-2 c =
-    let k = c.before.before.before.before.before in
-    let p = (start k).requires in
-    absurd (never_refused (beam k) p.accepted _ p.starts k.build-part.result _ _ (left k).answers c.before.built2.given.1)
+    let k = c in
+    let p = (start k.before.before.before).requires in
+    absurd (never_refused (beam k.before.before.before) p.accepted _ p.starts k.build_part-built.result _ _ (left k.before.before.before).answers c.in-Refused.is)
 
-pub part-rows-spec : {M : Type 1} → statement M
-part-rows-spec =
+pub part_rows_spec : {M : Type 1} → statement M
+part_rows_spec =
     tie.close (tie.spec build-part-requires (λ c. search rules) (λ c. search rules) (λ c. search rules) (λ c. search rules) returns
     (λ c. search rules) (λ c. search rules) returns-2)

@@ -6,11 +6,11 @@ use Rattle.sheet_lines.specs.Machine.{is_some}
 use Rattle.sheet_lines.proofs.is_numeral.Statement.{statement}
 use Rattle.sheet_lines.proofs.is_numeral.Tie as tie
 
-returns : tie.Need-returns
-returns c = sym (ap is_some (field-none _ (sym c.before.before.numeral.ensures ∙ c.enum_told.given.1)))
+returns : tie.Need-returns-in-Bad
+returns c = sym (ap is_some (field-none _ (sym c.numeral-field.ensures ∙ c.in-Bad.is)))
 
-returns-2 : tie.Need-returns-2
-returns-2 c = sym (ap is_some (field_some _ _ (sym c.before.before.numeral.ensures ∙ c.enum-told2.given.1)))
+returns-2 : tie.Need-returns-in-Numeral
+returns-2 c = sym (ap is_some (field_some _ _ (sym c.numeral-field.ensures ∙ c.in-Numeral.is)))
 
-pub is-numeral-spec : {M : Type 1} → statement M
-is-numeral-spec = tie.close (tie.spec (λ c κs. search rules) (λ c. search rules) (λ c. search rules) returns returns-2)
+pub is_numeral_spec : {M : Type 1} → statement M
+is_numeral_spec = tie.close (tie.spec (λ c κs. search rules) (λ c. search rules) (λ c. search rules) returns returns-2)

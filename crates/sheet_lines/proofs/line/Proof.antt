@@ -1,6 +1,5 @@
 -- Byte 10 is found, then the key and the list are tested in what stands before it.
 use borrow.Author.Rules.{rules}
-use borrow.Author.Tests.{not-true, not-false}
 use mathlib.Core.Bool.{true}
 use mathlib.Core.Option.{Option}
 use mathlib.Core.Path.{◌≡◌, sym, ◌∙◌}
@@ -13,69 +12,69 @@ use Rattle.sheet_lines.proofs.line.Statement.{statement}
 use Rattle.sheet_lines.proofs.line.Tie as tie
 
 -- the place where the end of the line is known
-module _ (c : tie.After-find) where
+module _ (c : tie.After-find-end) where
   abbrev text : Text
-  text = c.before.before.before.args.text.now
+  text = c.args.text.now
 
   abbrev key : Text
-  key = c.before.before.before.args.key.now
+  key = c.args.key.now
 
-  abbrev entry : Text → Option (Value c.before.before.before.args.kind)
-  entry = entry_of c.before.before.before.args.kind
+  abbrev entry : Text → Option (Value c.args.kind)
+  entry = entry_of c.args.kind
 
   abbrev from : ℕ
-  from = c.before.before.before.args.from
+  from = c.args.from
 
   abbrev end : ℕ
-  end = c.find.result
+  end = c.find-end.result
 
-returns : tie.Need-returns
+returns : tie.Need-returns-then-end-text
 returns c =
-    let f = c.before in
-    line-bad (entry f) (text f) (line-unended (entry f) (key f) (text f) (from f) (end f) f.before.before.before.requires f.find.ensures c.if1.true)
+    let f = c in
+    line-bad (entry f.before) (text f.before) (line-unended (entry f.before) (key f.before) (text f.before) (from f.before) (end f.before) f.requires f.find-end.ensures c.if-end-text.true)
 
 begins-requires : tie.Need-begins-requires
 begins-requires c κs =
-    let f = c.before in
-    end_part (entry f) (key f) (text f) (from f) (end f) f.before.before.before.requires f.find.ensures
+    let f = c in
+    end_part (entry f.before) (key f.before) (text f.before) (from f.before) (end f.before) f.requires f.find-end.ensures
 
-returns-2 : tie.Need-returns-2
+returns-2 : tie.Need-returns-then-not-begins
 returns-2 c =
-    let f = c.before.before.before in
-    line-bad (entry f) (text f) (line_unkeyed (entry f) (key f) (text f) (from f) (end f) f.before.before.before.requires f.find.ensures
-    c.before.before.if1.false (sym c.before.begins.ensures ∙ not-true _ c.if2.true))
+    let f = c in
+    line-bad (entry f.before.before.before) (text f.before.before.before) (line_unkeyed (entry f.before.before.before) (key f.before.before.before) (text f.before.before.before) (from f.before.before.before) (end f.before.before.before) f.requires f.find-end.ensures
+    c.if-end-text.false (sym c.begins.ensures ∙ c.if-not-begins.true))
 
 -- the line has its key
-module _ (c : tie.Else2) where
-  abbrev found : tie.After-find
+module _ (c : tie.Else-not-begins) where
+  abbrev found : tie.After-find-end
   found = c.before.before.before
 
   keyed : begins_with (key found) (slice (from found) (end found) (text found)) ≡ true
-  keyed = sym c.before.begins.ensures ∙ not-false _ c.if2.false
+  keyed = sym c.begins.ensures ∙ c.if-not-begins.false
 
-count-list-requires : tie.Need-count-list-requires
+count-list-requires : tie.Need-count_list-counted-requires
 count-list-requires c κs =
     let f = found c in
-    list_part (entry f) (key f) (text f) (from f) (end f) f.before.before.before.pre f.find.ensures c.before.before.if1.false (keyed c)
+    list_part (entry f) (key f) (text f) (from f) (end f) f.requires f.find-end.ensures c.if-end-text.false (keyed c)
 
-returns-3 : tie.Need-returns-3
+returns-3 : tie.Need-returns-in-Bad
 returns-3 c =
-    let l = c.before.before in
-    let k = l.before in
-    let f = found k in
-    line-bad (entry f) (text f) (line-bad_list (entry f) (key f) (text f) (from f) (end f) f.before.before.before.pre f.find.ensures
-    k.before.before.if1.false (keyed k) (count_none _ (sym l.count-list.ensures ∙ c.enum_told.given.1)))
+    let l = c in
+    let k = l in
+    let f = found k.before.before in
+    line-bad (entry f) (text f) (line-bad_list (entry f) (key f) (text f) (from f) (end f) f.requires f.find-end.ensures
+    k.if-end-text.false (keyed k.before.before) (count_none _ (sym l.count_list-counted.ensures ∙ c.in-Bad.is)))
 
-returns-4 : tie.Need-returns-4
+returns-4 : tie.Need-returns-in-Entries
 returns-4 c =
-    let l = c.before.before in
-    let k = l.before in
-    let f = found k in
-    let good = count_some _ _ (sym l.count-list.ensures ∙ c.enum-told2.given.1) in
-    line-good (entry f) (key f) (text f) (from f) (end f) f.before.before.before.pre f.find.ensures k.before.before.if1.false
-    (keyed k) good.0 good.1
+    let l = c in
+    let k = l in
+    let f = found k.before.before in
+    let good = count_some _ _ (sym l.count_list-counted.ensures ∙ c.in-Entries.is) in
+    line-good (entry f) (key f) (text f) (from f) (end f) f.requires f.find-end.ensures k.if-end-text.false
+    (keyed k.before.before) good.0 good.1
 
-pub line-spec : {M : Type 1} → statement M
-line-spec =
+pub line_spec : {M : Type 1} → statement M
+line_spec =
     tie.close (tie.spec (λ c κs. search rules) returns begins-requires returns-2 (λ c. search rules) count-list-requires (λ c. search rules)
     (λ c. search rules) returns-3 returns-4)

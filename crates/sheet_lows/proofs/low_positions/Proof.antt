@@ -61,44 +61,44 @@ module _ (xs vs lows₀ lows : List ℤ) (count k : ℕ) (i : Inv xs vs lows₀ 
         ∙ more (entry_not_low x v e);
   }
 
-abbrev invariant-loop : tie.invariant-loop
+abbrev invariant-loop : tie.invariant-loop-k
 invariant-loop positions values lows₀ count₀ k₀ lows count k = Inv positions values lows₀ lows count k
 
-abbrev decreases-loop : tie.decreases-loop
+abbrev decreases-loop : tie.decreases-loop-k
 decreases-loop positions values lows₀ count₀ k₀ lows count k = length positions - k
 
-loop-holds : tie.Need-loop-init invariant-loop decreases-loop
+loop-holds : tie.Need-loop-k-init invariant-loop decreases-loop
 loop-holds c = record { within = omega arith; few = omega arith; same = refl; kept = sym (low_positions-none _) }
 
-loop-again : tie.Need-loop-preserved invariant-loop decreases-loop
+loop-again : tie.Need-loop-k-preserved invariant-loop decreases-loop
 loop-again c =
-    let q = c.before in
-    let l = q.before.before.before.before.before.loop in
-    let a = q.before.before.before.before.before.before.args in
+    let q = c in
+    let l = q.loop-k in
+    let a = q.args in
     let xs = a.positions.now in
     let vs = a.values.now in
-    let f : SFits w32 (get_or xs l.k (pos 0)) = record { sfits = q.before.before.before.lows.given } in
-    let g : SFits w32 (get_or vs (2 * l.k) (pos 0)) = record { sfits = q.before.before.is-low-arg.given } in
-    let h : SFits w32 (get_or vs (2 * l.k + 1) (pos 0)) = record { sfits = q.before.is-low-arg2.given } in
+    let f : SFits w32 (get_or xs l.k (pos 0)) = record { sfits = q.lows-1.given } in
+    let g : SFits w32 (get_or vs (2 * l.k) (pos 0)) = record { sfits = q.is_low-arg-1.given } in
+    let h : SFits w32 (get_or vs (2 * l.k + 1) (pos 0)) = record { sfits = q.is_low-arg-in-loop-k-1.given } in
     let room : l.count < length l.lows = omega arith in
-    let low = simp to_z-of_z at q.is-low.ensures in
+    let low = simp to_z-of_z at q.is_low.ensures in
     simp to_z-of_z (
     ⊎_elim
-    (λ w. rw (w.1, add-one l.count, add-one l.k) (counted xs vs _ l.lows l.count l.k l.invariant (omega arith) (omega arith) room (sym low ∙ w.0.taken)))
-    (λ w. rw (w.1, add-one l.k) (passed xs vs _ l.lows l.count l.k l.invariant (omega arith) (omega arith) room (sym low ∙ w.0.left)))
-    c.if1.branch
+    (λ w. rw (w.count-is, add-one l.count, add-one l.k) (counted xs vs _ l.lows l.count l.k l.invariant (omega arith) (omega arith) room (sym low ∙ w.if-is_low.true)))
+    (λ w. rw (w.count-is, add-one l.k) (passed xs vs _ l.lows l.count l.k l.invariant (omega arith) (omega arith) room (sym low ∙ w.if-is_low.false)))
+    c.if-is_low.branch-raw
     )
 
 returns : tie.Need-returns invariant-loop decreases-loop
 returns c =
-    let l = c.before.loop in
-    let xs = c.before.before.args.positions.now in
+    let l = c.loop-k in
+    let xs = c.args.positions.now in
     let all : take l.k xs ≡ xs = take_all l.k xs (omega arith) in
     let kept = rw all at l.invariant.kept in
     (sym (length-take-le l.count l.lows (omega arith)) ∙ ap length kept, kept)
 
-pub low-positions-spec : {M : Type 1} → statement M
-low-positions-spec =
+pub low_positions_spec : {M : Type 1} → statement M
+low_positions_spec =
     tie.close (tie.spec invariant-loop decreases-loop loop-holds (λ c. omega arith) (λ c. omega arith) (λ c. omega arith) (λ c. omega arith)
     (λ c. omega arith) (λ c. omega arith) (λ c. omega arith) (λ c. omega arith) (λ c. omega arith) (λ c. omega arith) (λ c. omega arith)
-    (λ c κs. search rules) (λ c. omega arith) (λ c. omega arith) (λ c. omega arith) loop-again (λ c. c.before.loop.invariant.same) returns)
+    (λ c κs. search rules) (λ c. omega arith) (λ c. omega arith) (λ c. omega arith) loop-again (λ c. c.loop-k.invariant.same) returns)

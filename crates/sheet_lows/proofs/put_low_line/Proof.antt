@@ -7,22 +7,22 @@ use Rattle.base_print.proofs.Buffer.{puts_then, puts_within}
 use Rattle.sheet_lows.proofs.put_low_line.Statement.{statement}
 use Rattle.sheet_lows.proofs.put_low_line.Tie as tie
 
-cast-put-decimal : tie.Need-overflow-cast-put-decimal
-cast-put-decimal c = let f = c.before.before.before.before.before.before.before.ranges.x in simp to_z-of_z (sfits_widen f)
+cast-put-decimal : tie.Need-overflow_cast-x
+cast-put-decimal c = let f = c.ranges.x in simp to_z-of_z (sfits_widen f)
 
 returns : tie.Need-returns
 unfolding low_line
 returns c =
-    let d = c.before.before in
-    let b = d.before.before.before.before in
-    let a = b.before.before.before.before in
-    let f = a.before.before.before.before.ranges.x in
+    let d = c in
+    let b = d in
+    let a = b in
+    let f = a.ranges.x in
     let g = sfits_widen f in
     puts_within (omega arith)
-    (puts_then a.put-text.ensures
-    (puts_then (simp to_z-of_z at b.put-decimal.ensures) d.put.ensures))
+    (puts_then a.put_text-a.ensures
+    (puts_then (simp to_z-of_z at b.put_decimal-b.ensures) d.put.ensures))
 
-pub put-low-line-spec : {M : Type 1} → statement M
-put-low-line-spec =
-    tie.close (tie.spec (λ c. search rules) (λ c κs. search rules) cast-put-decimal (λ c κs. search rules) (λ c κs. search rules)
+pub put_low_line_spec : {M : Type 1} → statement M
+put_low_line_spec =
+    tie.close (tie.spec (λ c κs. search rules) cast-put-decimal (λ c κs. search rules) (λ c κs. search rules)
     (λ c. search rules) returns)

@@ -21,32 +21,32 @@ record Inv (out₀ : List ℕ) (at : ℕ) (lows : List ℤ) (out : List ℕ) (ne
   within : k ≤ length lows
   put : Puts (26 * k) at (low_lines (take k lows)) out₀ out next
 
-abbrev invariant-loop : tie.invariant-loop
+abbrev invariant-loop : tie.invariant-loop-k
 invariant-loop out₀ at lows next₀ k₀ out next k = Inv out₀ at lows out next k
 
-abbrev decreases-loop : tie.decreases-loop
+abbrev decreases-loop : tie.decreases-loop-k
 decreases-loop out₀ at lows next₀ k₀ out next k = length lows - k
 
-loop-again : tie.Need-loop-preserved invariant-loop decreases-loop
+loop-again : tie.Need-loop-k-preserved invariant-loop decreases-loop
 loop-again c =
-    let l = c.before.before.before.before.before.before.loop in
-    let lows = c.before.before.before.before.before.before.before.before.args.lows.now in
-    let f : SFits w32 (get_or lows l.k (pos 0)) = record { sfits = c.before.before.before.put-low-line-arg2.given } in
+    let l = c.loop-k in
+    let lows = c.args.lows.now in
+    let f : SFits w32 (get_or lows l.k (pos 0)) = record { sfits = c.put_low_line-arg-in-loop-k-1.given } in
     record {
       within = omega arith;
       put =
           rw (add-one, low_lines_more lows l.k (omega arith))
-          (puts_within (omega arith) (puts_then l.invariant.put (simp to_z-of_z at c.before.before.put-low-line.ensures)));
+          (puts_within (omega arith) (puts_then l.invariant.put (simp to_z-of_z at c.put_low_line-next.ensures)));
     }
 
 returns : tie.Need-returns invariant-loop decreases-loop
 returns c =
-    let l = c.before.loop in
-    let lows = c.before.before.before.args.lows.now in
+    let l = c.loop-k in
+    let lows = c.args.lows.now in
     puts_within (omega arith) (rw (take_all l.k lows (omega arith)) at l.invariant.put)
 
-pub put-low-lines-spec : {M : Type 1} → statement M
-put-low-lines-spec =
+pub put_low_lines_spec : {M : Type 1} → statement M
+put_low_lines_spec =
     tie.close (tie.spec invariant-loop decreases-loop (λ c. record { within = omega arith; put = puts_as (sym low_lines-none) (puts_none _ _) })
     (λ c. omega arith) (λ c. omega arith) (λ c κs. omega arith) (λ c. omega arith) (λ c. omega arith) loop-again
-    (λ c. puts_length c.before.loop.invariant.put) returns)
+    (λ c. puts_length c.loop-k.invariant.put) returns)

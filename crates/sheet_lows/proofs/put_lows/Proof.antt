@@ -32,37 +32,37 @@ module _ (xs : List ℤ) (vs : List Pair) (before after : List ℤ) (count : ℕ
 
 -- where the array has been sorted
 module _ (k : tie.After-sort) where
-  abbrev collected : tie.After-low-positions
+  abbrev collected : tie.After-low_positions-count
   collected = k.before.before.before
 
   abbrev positions : List ℤ
-  positions = collected.before.before.before.args.positions.now
+  positions = collected.args.positions.now
 
   abbrev values : List Pair
-  values = paired collected.before.before.before.args.values.now
+  values = paired collected.args.values.now
 
   abbrev count : ℕ
-  count = collected.low-positions.result
+  count = collected.low_positions-count.result
 
-  fits : count ≤ length k.sort.last.0
-  fits = lows_fit positions values _ _ count collected.low-positions.ensures.0 collected.low-positions.ensures.1 k.sort.ensures
+  fits : count ≤ length k.sort.new.list
+  fits = lows_fit positions values _ _ count collected.low_positions-count.ensures.0 collected.low_positions-count.ensures.1 k.sort.ensures
 
-  are : take count k.sort.last.0 ≡ sorted (low_positions positions values)
-  are = lows_are positions values _ _ count collected.low-positions.ensures.0 collected.low-positions.ensures.1 k.sort.ensures
+  are : take count k.sort.new.list ≡ sorted (low_positions positions values)
+  are = lows_are positions values _ _ count collected.low_positions-count.ensures.0 collected.low_positions-count.ensures.1 k.sort.ensures
 
-  few : length (take count k.sort.last.0) ≤ length positions
-  few = omega (arith, length-take-le count k.sort.last.0 fits, collected.low-positions.ensures.0, low_positions_few positions values)
+  few : length (take count k.sort.new.list) ≤ length positions
+  few = omega (arith, length-take-le count k.sort.new.list fits, collected.low_positions-count.ensures.0, low_positions_few positions values)
 
-put-low-lines-requires : tie.Need-put-low-lines-requires
-put-low-lines-requires c κs = let s = c.before.before.before.before.before.before.before.before in omega (arith, few c.before.before, s.requires)
+put-low-lines-requires : tie.Need-put_low_lines-requires
+put-low-lines-requires c κs = let s = c in omega (arith, few c.before.before, s.requires)
 
 returns : tie.Need-returns
 returns c =
-    let p = c.before.before in
-    let k = p.before.before.before in
-    puts_within (omega (arith, few k)) (puts_as (ap low_lines (are k)) p.put-low-lines.ensures)
+    let p = c in
+    let k = p in
+    puts_within (omega (arith, few k.before.before.before.before.before)) (puts_as (ap low_lines (are k.before.before.before.before.before)) p.put_low_lines.ensures)
 
-pub put-lows-spec : {M : Type 1} → statement M
-put-lows-spec =
+pub put_lows_spec : {M : Type 1} → statement M
+put_lows_spec =
     tie.close (tie.spec (λ c. search rules) (λ c κs. search rules) (λ c κs. search rules) (λ c. fits c.before)
-    (λ c. let k = c.before.before in sym (length-take-le (count k) _ (fits k))) put-low-lines-requires (λ c. search rules) returns)
+    (λ c. let k = c in sym (length-take-le (count k.before.before) _ (fits k.before.before))) put-low-lines-requires (λ c. search rules) returns)

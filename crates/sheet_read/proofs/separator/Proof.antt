@@ -9,17 +9,17 @@ use Rattle.sheet_read.proofs.Separators.{separator_is}
 use Rattle.sheet_read.proofs.separator.Statement.{statement}
 use Rattle.sheet_read.proofs.separator.Tie as tie
 
-find-requires-2 : tie.Need-find-requires-2
+find-requires-2 : tie.Need-find-requires
 find-requires-2 c κs =
-    let a = c.before.before.args in
-    stop_part (byte comma) a.text.now a.from a.to c.find.result c.before.before.requires c.find.ensures
+    let a = c.args in
+    stop_part (byte comma) a.text.now a.from a.to c.find-comma.result c.requires c.find-comma.ensures
 
 returns : tie.Need-returns
 returns c =
-    let f = c.before in
-    let a = f.before.before.args in
-    c.find2.ensures
-    ∙ ap (λ (k : ℕ). a.from + k) (separator_is a.text.now a.from a.to f.find.result f.before.before.requires f.find.ensures)
+    let f = c in
+    let a = f.args in
+    c.find.ensures
+    ∙ ap (λ (k : ℕ). a.from + k) (separator_is a.text.now a.from a.to f.find-comma.result f.requires f.find-comma.ensures)
 
-pub separator-spec : {M : Type 1} → statement M
-separator-spec = tie.close (tie.spec (λ c κs. search rules) find-requires-2 returns)
+pub separator_spec : {M : Type 1} → statement M
+separator_spec = tie.close (tie.spec (λ c κs. search rules) find-requires-2 returns)

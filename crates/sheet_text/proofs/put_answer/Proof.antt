@@ -8,19 +8,19 @@ use Rattle.sheet_text.proofs.put_answer.Tie as tie
 
 returns : tie.Need-returns
 returns c =
-    let e = c.before.before in
-    let d = e.before.before.before.before in
-    let b = d.before.before.before.before.before.before in
-    let a = b.before.before.before.before.before.before in
-    let p = a.before.before.before.requires in
+    let e = c in
+    let d = e in
+    let b = d in
+    let a = b in
+    let p = a.requires in
     puts_within (omega (arith, p.few))
     (puts_as (answer-joined p.filled _ _)
-    (puts_then a.put_count.ensures
-    (puts_then b.put-beam.ensures
-    (puts_then d.put-values.ensures
-    e.put-lows.ensures))))
+    (puts_then a.put_count-a.ensures
+    (puts_then b.put_beam-b.ensures
+    (puts_then d.put_values-c.ensures
+    e.put_lows.ensures))))
 
-pub put-answer-spec : {M : Type 1} → statement M
-put-answer-spec =
+pub put_answer_spec : {M : Type 1} → statement M
+put_answer_spec =
     tie.close (tie.spec (λ c κs. search rules) (λ c κs. search rules) (λ c κs. search rules) (λ c κs. search rules) (λ c. search rules)
     (λ c. search rules) (λ c. search rules) returns)

@@ -16,80 +16,80 @@ use Rattle.sheet_text.proofs.sheet.Statement.{statement}
 use Rattle.sheet_text.proofs.sheet.Tie as tie
 
 -- the lists, where the sheet has been read
-module _ (a : tie.After-lists2) where
-  abbrev done : tie.After-read
-  done = a.before.before
+module _ (a : tie.In-Read) where
+  abbrev done : tie.After-read-lists
+  done = a.before
 
   abbrev text : Text
-  text = done.before.before.before.before.before.before.before.before.args.input.now
+  text = done.args.input.now
 
   abbrev counts : Lengths
-  counts = let n = a.lists2.given.0 in record { breaks = n.0; degrees = n.1.0; orders = n.1.1.0; coefs = n.1.1.1.0; positions = n.1.1.1.1.0 }
+  counts = let n = a.in-Read in record { breaks = n.b; degrees = n.d; orders = n.o; coefs = n.c; positions = n.p }
 
   listed : Listed (read text) counts
-  listed = reply-read (read text) done.read.result _ _ _ _ _ done.read.ensures.replies a.lists2.given.1
+  listed = reply-read (read text) done.read-lists.result _ _ _ _ _ done.read-lists.ensures.replies a.in-Read.is
 
-  breaks_fit : counts.breaks ≤ length done.read.last.1.0
-  breaks_fit = part-fits (λ l. l.breaks) listed.is _ done.read.ensures.breaks_are (ap (λ n. n.breaks) listed.counts)
+  breaks_fit : counts.breaks ≤ length done.read-lists.new.breaks
+  breaks_fit = part-fits (λ l. l.breaks) listed.is _ done.read-lists.ensures.breaks_are (ap (λ n. n.breaks) listed.counts)
 
-  degrees_fit : counts.degrees ≤ length done.read.last.1.1.0
-  degrees_fit = part-fits (λ l. l.degrees) listed.is _ done.read.ensures.degrees_are (ap (λ n. n.degrees) listed.counts)
+  degrees_fit : counts.degrees ≤ length done.read-lists.new.degrees
+  degrees_fit = part-fits (λ l. l.degrees) listed.is _ done.read-lists.ensures.degrees_are (ap (λ n. n.degrees) listed.counts)
 
-  orders_fit : counts.orders ≤ length done.read.last.1.1.1.0
-  orders_fit = part-fits (λ l. l.orders) listed.is _ done.read.ensures.orders_are (ap (λ n. n.orders) listed.counts)
+  orders_fit : counts.orders ≤ length done.read-lists.new.orders
+  orders_fit = part-fits (λ l. l.orders) listed.is _ done.read-lists.ensures.orders_are (ap (λ n. n.orders) listed.counts)
 
-  coefs_fit : counts.coefs ≤ length done.read.last.1.1.1.1.0
-  coefs_fit = part-fits (λ l. side_by_side l.coefs) listed.is _ done.read.ensures.coefs_are (ap (λ n. n.coefs) listed.counts)
+  coefs_fit : counts.coefs ≤ length done.read-lists.new.coefs
+  coefs_fit = part-fits (λ l. side_by_side l.coefs) listed.is _ done.read-lists.ensures.coefs_are (ap (λ n. n.coefs) listed.counts)
 
-  positions_fit : counts.positions ≤ length done.read.last.1.1.1.1.1.0
-  positions_fit = part-fits (λ l. l.positions) listed.is _ done.read.ensures.positions_are (ap (λ n. n.positions) listed.counts)
+  positions_fit : counts.positions ≤ length done.read-lists.new.positions
+  positions_fit = part-fits (λ l. l.positions) listed.is _ done.read-lists.ensures.positions_are (ap (λ n. n.positions) listed.counts)
 
-slice-aggregate-run-3 : tie.Need-slice-aggregate-run-3
-slice-aggregate-run-3 c = let a = c.before.before.before.before in sym (length-take-le (counts a).orders _ (orders_fit a))
+slice-aggregate-run-3 : tie.Need-slice_bounds-run-end-in-Read-2
+slice-aggregate-run-3 c = let a = c in sym (length-take-le (counts a.before.before.before).orders _ (orders_fit a.before.before.before))
 
-slice-aggregate-run-4 : tie.Need-slice-aggregate-run-4
-slice-aggregate-run-4 c = let a = c.before.before.before.before.before in sym (length-take-le (counts a).coefs _ (coefs_fit a))
+slice-aggregate-run-4 : tie.Need-slice_bounds-run-end-in-Read-3
+slice-aggregate-run-4 c = let a = c in sym (length-take-le (counts a.before.before.before.before).coefs _ (coefs_fit a.before.before.before.before))
 
-slice-aggregate-run-5 : tie.Need-slice-aggregate-run-5
-slice-aggregate-run-5 c = let a = c.before.before.before.before.before.before in sym (length-take-le (counts a).positions _ (positions_fit a))
+slice-aggregate-run-5 : tie.Need-slice_bounds-run-end-in-Read-4
+slice-aggregate-run-5 c = let a = c in sym (length-take-le (counts a.before.before.before.before.before).positions _ (positions_fit a.before.before.before.before.before))
 
 run-requires : tie.Need-run-requires
 run-requires c κs =
-    let a = c.before.before.before.before.before.before.before in
+    let a = c in
     omega (
       arith,
-      length-take-le (counts a).positions (done a).read.new.1.1.1.1.1.0 (positions_fit a),
-      ap (λ n. n.positions) (listed a).counts,
-      positions_few (text a) (listed a).lists (listed a).is,
+      length-take-le (counts a.before.before.before.before.before.before).positions (done a.before.before.before.before.before.before).read-lists.new.positions (positions_fit a.before.before.before.before.before.before),
+      ap (λ n. n.positions) (listed a.before.before.before.before.before.before).counts,
+      positions_few (text a.before.before.before.before.before.before) (listed a.before.before.before.before.before.before).lists (listed a.before.before.before.before.before.before).is,
     )
 
-returns : tie.Need-returns
+returns : tie.Need-returns-in-Refused
 returns c =
-    let a = c.before.before.before.before.before in
-    let k = a.before.before in
-    let p = c.before.before.refusal.ensures in
-    let t = malformed_prints _ k.read.result _ k.read.ensures.replies a.lists.given.1 in
+    let a = c in
+    let k = a in
+    let p = c.refusal.ensures in
+    let t = malformed_prints _ k.read-lists.result _ k.read-lists.ensures.replies a.in-Refused.is in
     prints_as t (omega (arith, p.few)) p
 
-returns-2 : tie.Need-returns-2
+returns-2 : tie.Need-returns-in-Read
 returns-2 c =
-    let a = c.before.before.before.before.before.before.before.before.before.before in
-    let k = done a in
-    let p = c.before.before.run.ensures in
+    let a = c in
+    let k = done a.before.before.before.before.before.before.before.before.before in
+    let p = c.run.ensures in
     let t =
-    called_prints (text a) (listed a).lists (listed a).is _
-    (part_is (λ l. l.breaks) (listed a).is _ k.read.ensures.breaks_are (ap (λ n. n.breaks) (listed a).counts))
-    (part_is (λ l. l.degrees) (listed a).is _ k.read.ensures.degrees_are (ap (λ n. n.degrees) (listed a).counts))
-    (part_is (λ l. l.orders) (listed a).is _ k.read.ensures.orders_are (ap (λ n. n.orders) (listed a).counts))
-    (part_is (λ l. side_by_side l.coefs) (listed a).is _ k.read.ensures.coefs_are (ap (λ n. n.coefs) (listed a).counts))
-    (part_is (λ l. l.positions) (listed a).is _ k.read.ensures.positions_are (ap (λ n. n.positions) (listed a).counts)) in
+    called_prints (text a.before.before.before.before.before.before.before.before.before) (listed a.before.before.before.before.before.before.before.before.before).lists (listed a.before.before.before.before.before.before.before.before.before).is _
+    (part_is (λ l. l.breaks) (listed a.before.before.before.before.before.before.before.before.before).is _ k.read-lists.ensures.breaks_are (ap (λ n. n.breaks) (listed a.before.before.before.before.before.before.before.before.before).counts))
+    (part_is (λ l. l.degrees) (listed a.before.before.before.before.before.before.before.before.before).is _ k.read-lists.ensures.degrees_are (ap (λ n. n.degrees) (listed a.before.before.before.before.before.before.before.before.before).counts))
+    (part_is (λ l. l.orders) (listed a.before.before.before.before.before.before.before.before.before).is _ k.read-lists.ensures.orders_are (ap (λ n. n.orders) (listed a.before.before.before.before.before.before.before.before.before).counts))
+    (part_is (λ l. side_by_side l.coefs) (listed a.before.before.before.before.before.before.before.before.before).is _ k.read-lists.ensures.coefs_are (ap (λ n. n.coefs) (listed a.before.before.before.before.before.before.before.before.before).counts))
+    (part_is (λ l. l.positions) (listed a.before.before.before.before.before.before.before.before.before).is _ k.read-lists.ensures.positions_are (ap (λ n. n.positions) (listed a.before.before.before.before.before.before.before.before.before).counts)) in
     prints_as t p.few p
 
-pub sheet-spec : {M : Type 1} → statement M
-sheet-spec =
-    tie.close (tie.spec (λ c κs. search rules) (λ c. search rules) (λ c κs. search rules) (λ c. search rules) (λ c. breaks_fit c.before)
-    (λ c. let a = c.before.before in sym (length-take-le (counts a).breaks _ (breaks_fit a))) (λ c. degrees_fit c.before.before)
-    (λ c. let a = c.before.before.before in sym (length-take-le (counts a).degrees _ (degrees_fit a)))
-    (λ c. orders_fit c.before.before.before) slice-aggregate-run-3 (λ c. coefs_fit c.before.before.before.before)
-    slice-aggregate-run-4 (λ c. let b = c.before.before.before.before.before in positions_fit b) slice-aggregate-run-5 run-requires
+pub sheet_spec : {M : Type 1} → statement M
+sheet_spec =
+    tie.close (tie.spec (λ c κs. search rules) (λ c. search rules) (λ c κs. search rules) (λ c. search rules) (λ c. breaks_fit c)
+    (λ c. let a = c in sym (length-take-le (counts a.before).breaks _ (breaks_fit a.before))) (λ c. degrees_fit c.before)
+    (λ c. let a = c in sym (length-take-le (counts a.before.before).degrees _ (degrees_fit a.before.before)))
+    (λ c. orders_fit c.before.before) slice-aggregate-run-3 (λ c. coefs_fit c.before.before.before)
+    slice-aggregate-run-4 (λ c. let b = c in positions_fit b.before.before.before.before) slice-aggregate-run-5 run-requires
     (λ c. search rules) returns (λ c. search rules) returns-2)

@@ -9,15 +9,15 @@ use Rattle.sheet_values.proofs.put_count.Tie as tie
 returns : tie.Need-returns
 unfolding count_line
 returns c =
-    let d = c.before.before in
-    let b = d.before.before.before.before in
-    let a = b.before.before.before.before in
+    let d = c in
+    let b = d in
+    let a = b in
     puts_within (omega arith)
-    (puts_then a.put-text.ensures
-    (puts_then b.put-digits.ensures
+    (puts_then a.put_text-a.ensures
+    (puts_then b.put_digits-b.ensures
     d.put.ensures))
 
-pub put-count-spec : {M : Type 1} → statement M
-put-count-spec =
-    tie.close (tie.spec (λ c. search rules) (λ c κs. search rules) (λ c κs. search rules) (λ c κs. search rules) (λ c. search rules)
+pub put_count_spec : {M : Type 1} → statement M
+put_count_spec =
+    tie.close (tie.spec (λ c κs. search rules) (λ c κs. search rules) (λ c κs. search rules) (λ c. search rules)
     returns)

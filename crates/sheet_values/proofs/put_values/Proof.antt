@@ -24,20 +24,20 @@ record Inv (out₀ : List ℕ) (at : ℕ) (positions values : List ℤ) (out : L
   within : k ≤ length positions
   put : Puts (value_line_limit * k) at (value_lines (take k positions) (paired values)) out₀ out next
 
-abbrev invariant-loop : tie.invariant-loop
+abbrev invariant-loop : tie.invariant-loop-k
 invariant-loop out₀ at positions values next₀ k₀ out next k = Inv out₀ at positions values out next k
 
-abbrev decreases-loop : tie.decreases-loop
+abbrev decreases-loop : tie.decreases-loop-k
 decreases-loop out₀ at positions values next₀ k₀ out next k = length positions - k
 
-loop-again : tie.Need-loop-preserved invariant-loop decreases-loop
+loop-again : tie.Need-loop-k-preserved invariant-loop decreases-loop
 loop-again c =
-    let l = c.before.before.before.before.before.before.before.before.loop in
-    let a = c.before.before.before.before.before.before.before.before.before.before.args in
+    let l = c.loop-k in
+    let a = c.args in
     let vs = a.values.now in
-    let f : SFits w32 (get_or a.positions.now l.k (pos 0)) = record { sfits = c.before.before.before.put-value-arg2.given } in
-    let g : SFits w32 (get_or vs (2 * l.k) (pos 0)) = record { sfits = c.before.before.before.before.before.before.early.given } in
-    let h : SFits w32 (get_or vs (2 * l.k + 1) (pos 0)) = record { sfits = c.before.before.before.before.before.late.given } in
+    let f : SFits w32 (get_or a.positions.now l.k (pos 0)) = record { sfits = c.put_value-arg-in-loop-k-1.given } in
+    let g : SFits w32 (get_or vs (2 * l.k) (pos 0)) = record { sfits = c.early-1.given } in
+    let h : SFits w32 (get_or vs (2 * l.k + 1) (pos 0)) = record { sfits = c.late-1.given } in
     record {
       within = omega arith;
       put =
@@ -46,18 +46,18 @@ loop-again c =
             value_lines_more a.positions.now (paired vs) l.k (omega arith) (omega (arith, paired_length vs)),
             paired_at vs l.k (omega arith),
           )
-          (puts_within (omega arith) (puts_then l.invariant.put (simp to_z-of_z at c.before.before.put-value.ensures)));
+          (puts_within (omega arith) (puts_then l.invariant.put (simp to_z-of_z at c.put_value-next.ensures)));
     }
 
 returns : tie.Need-returns invariant-loop decreases-loop
 returns c =
-    let l = c.before.loop in
-    let positions = c.before.before.before.args.positions.now in
+    let l = c.loop-k in
+    let positions = c.args.positions.now in
     puts_within (omega arith) (rw (take_all l.k positions (omega arith)) at l.invariant.put)
 
-pub put-values-spec : {M : Type 1} → statement M
-put-values-spec =
+pub put_values_spec : {M : Type 1} → statement M
+put_values_spec =
     tie.close (tie.spec invariant-loop decreases-loop (λ c. record { within = omega arith; put = puts_as (sym (value_lines-none _)) (puts_none _ _) })
     (λ c. omega arith) (λ c. omega arith) (λ c. omega arith) (λ c. omega arith) (λ c. omega arith) (λ c. omega arith) (λ c. omega arith)
     (λ c. omega arith) (λ c. omega arith) (λ c κs. omega arith) (λ c. omega arith) (λ c. omega arith) loop-again
-    (λ c. puts_length c.before.loop.invariant.put) returns)
+    (λ c. puts_length c.loop-k.invariant.put) returns)

@@ -11,22 +11,22 @@ use Rattle.sheet_weights.proofs.Printed.{cell-zero, cell-line}
 use Rattle.sheet_weights.proofs.put_cell.Statement.{statement}
 use Rattle.sheet_weights.proofs.put_cell.Tie as tie
 
-returns : tie.Need-returns
+returns : tie.Need-returns-then-num-eq0
 returns c =
-    let s = c.before.before in
+    let s = c in
     let f : SFits w64 s.args.num = s.ranges.num in
-    puts_as (sym (cell-zero _ _ _ _ _ (of_z_inj w64 _ (pos 0) f (sfits_nat 0 (omega arith)) c.if1.true))) (puts_within (omega arith) (puts_none _ _))
+    puts_as (sym (cell-zero _ _ _ _ _ (of_z_inj w64 _ (pos 0) f (sfits_nat 0 (omega arith)) c.if-num-eq0.true))) (puts_within (omega arith) (puts_none _ _))
 
-returns-2 : tie.Need-returns-2
+returns-2 : tie.Need-returns
 returns-2 c =
-    let s = c.before.before.before.before.before.before.before.before.before.before in
+    let s = c in
     let f : SFits w64 s.args.num = s.ranges.num in
     let g : SFits w64 s.args.den = s.ranges.den in
-    let place = c.before.before.before.before.before.before in
-    puts_as (sym (cell-line _ _ _ _ _ (λ e. place.before.before.if1.false (ap (of_z w64) e))))
-    (puts_within (omega arith) (puts_then place.put-place.ensures (simp to_z-of_z at c.before.before.put-fraction.ensures)))
+    let place = c in
+    puts_as (sym (cell-line _ _ _ _ _ (λ e. place.if-num-eq0.false (ap (of_z w64) e))))
+    (puts_within (omega arith) (puts_then place.put_place-a.ensures (simp to_z-of_z at c.put_fraction.ensures)))
 
-pub put-cell-spec : {M : Type 1} → statement M
-put-cell-spec =
+pub put_cell_spec : {M : Type 1} → statement M
+put_cell_spec =
     tie.close (tie.spec returns (λ c. omega arith) (λ c. omega arith) (λ c κs. search rules) (λ c κs. search rules) (λ c. search rules)
     returns-2)

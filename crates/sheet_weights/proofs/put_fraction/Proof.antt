@@ -13,21 +13,21 @@ use Rattle.sheet_weights.proofs.put_fraction.Tie as tie
 
 returns : tie.Need-returns
 returns c =
-    let e = c.before.before in
-    let d = e.before.before.before.before in
-    let b = d.before.before.before.before in
-    let a = b.before.before.before.before in
-    let s = a.before.before.before.before in
+    let e = c in
+    let d = e in
+    let b = d in
+    let a = b in
+    let s = a in
     let f : SFits w64 s.args.num = s.ranges.num in
     let g : SFits w64 s.args.den = s.ranges.den in
-    let size : a.before.before.magnitude.result ≡ nat_abs s.args.den = simp to_z-of_z at a.before.before.magnitude.ensures in
+    let size : a.magnitude-size.result ≡ nat_abs s.args.den = simp to_z-of_z at a.magnitude-size.ensures in
     puts_within (omega arith)
-    (puts_then (simp to_z-of_z at a.put-decimal.ensures)
-    (puts_then b.put.ensures
-    (puts_then (puts_as (ap digits size) d.put-digits.ensures)
-    e.put2.ensures)))
+    (puts_then (simp to_z-of_z at a.put_decimal-a.ensures)
+    (puts_then b.put-b.ensures
+    (puts_then (puts_as (ap digits size) d.put_digits-c.ensures)
+    e.put.ensures)))
 
-pub put-fraction-spec : {M : Type 1} → statement M
-put-fraction-spec =
+pub put_fraction_spec : {M : Type 1} → statement M
+put_fraction_spec =
     tie.close (tie.spec (λ c κs. search rules) (λ c κs. search rules) (λ c κs. search rules) (λ c κs. search rules) (λ c κs. search rules)
     (λ c. search rules) returns)

@@ -7,19 +7,19 @@ use Rattle.sheet_weights.proofs.put_place.Tie as tie
 
 returns : tie.Need-returns
 returns c =
-    let e = c.before.before in
-    let d = e.before.before.before.before in
-    let b = d.before.before.before.before in
-    let a = b.before.before.before.before in
-    let k = a.before.before.before.before in
+    let e = c in
+    let d = e in
+    let b = d in
+    let a = b in
+    let k = a in
     puts_within (omega arith)
-    (puts_then k.put-text.ensures
-    (puts_then a.put-digits.ensures
-    (puts_then b.put.ensures
-    (puts_then d.put-digits2.ensures
-    e.put2.ensures))))
+    (puts_then k.put_text-a.ensures
+    (puts_then a.put_digits-b.ensures
+    (puts_then b.put-d.ensures
+    (puts_then d.put_digits-e.ensures
+    e.put.ensures))))
 
-pub put-place-spec : {M : Type 1} → statement M
-put-place-spec =
-    tie.close (tie.spec (λ c. search rules) (λ c κs. search rules) (λ c κs. search rules) (λ c κs. search rules) (λ c κs. search rules)
+pub put_place_spec : {M : Type 1} → statement M
+put_place_spec =
+    tie.close (tie.spec (λ c κs. search rules) (λ c κs. search rules) (λ c κs. search rules) (λ c κs. search rules)
     (λ c κs. search rules) (λ c. search rules) returns)

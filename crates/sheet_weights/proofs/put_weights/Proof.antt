@@ -21,34 +21,34 @@ record Inv (out₀ : List ℕ) (at row column : ℕ) (num den : List ℤ) (cells
   within : k ≤ cells
   put : Puts (87 * k) at (weight_lines (stored_weights row column k num den)) out₀ out next
 
-abbrev invariant-loop : tie.invariant-loop
+abbrev invariant-loop : tie.invariant-loop-k
 invariant-loop out₀ at row column n num den cells next₀ k₀ out next k = Inv out₀ at row column num den cells out next k
 
-abbrev decreases-loop : tie.decreases-loop
+abbrev decreases-loop : tie.decreases-loop-k
 decreases-loop out₀ at row column n num den cells next₀ k₀ out next k = cells - k
 
-loop-again : tie.Need-loop-preserved invariant-loop decreases-loop
+loop-again : tie.Need-loop-k-preserved invariant-loop decreases-loop
 loop-again c =
-    let l = c.before.before.before.before.before.before.before.loop in
-    let a = c.before.before.before.before.before.before.before.before.before.args in
-    let f : SFits w64 (get_or a.num.now l.k (pos 0)) = record { sfits = c.before.before.before.before.put-cell-arg2.given } in
-    let g : SFits w64 (get_or a.den.now l.k (pos 0)) = record { sfits = c.before.before.before.put-cell-arg3.given } in
+    let l = c.loop-k in
+    let a = c.args in
+    let f : SFits w64 (get_or a.num.now l.k (pos 0)) = record { sfits = c.put_cell-arg-in-loop-k-1.given } in
+    let g : SFits w64 (get_or a.den.now l.k (pos 0)) = record { sfits = c.put_cell-arg-in-loop-k-2-1.given } in
     record {
       within = omega arith;
       put =
           rw (add-one, cells_more a.row a.column l.k a.num.now a.den.now)
-          (puts_within (omega arith) (puts_then l.invariant.put (simp to_z-of_z at c.before.before.put-cell.ensures)));
+          (puts_within (omega arith) (puts_then l.invariant.put (simp to_z-of_z at c.put_cell-next.ensures)));
     }
 
 returns : tie.Need-returns invariant-loop decreases-loop
 returns c =
-    let l = c.before.loop in
-    let all : l.k ≡ 72 * c.before.before.before.args.n = omega arith in
+    let l = c.loop-k in
+    let all : l.k ≡ 72 * c.args.n = omega arith in
     rw all at l.invariant.put
 
-pub put-weights-spec : {M : Type 1} → statement M
-put-weights-spec =
+pub put_weights_spec : {M : Type 1} → statement M
+put_weights_spec =
     tie.close (tie.spec invariant-loop decreases-loop (λ c. omega arith)
     (λ c. record { within = omega arith; put = puts_as (sym (cells-none _ _ _ _)) (puts_none _ _) }) (λ c. omega arith) (λ c. omega arith)
     (λ c. omega arith) (λ c. omega arith) (λ c κs. omega arith) (λ c. omega arith) (λ c. omega arith) loop-again
-    (λ c. puts_length c.before.loop.invariant.put) returns)
+    (λ c. puts_length c.loop-k.invariant.put) returns)

@@ -17,66 +17,66 @@ module _ (s : tie.Start) where
       + length (index_text s.args.index) + 5) ≤ length s.args.out.now
   room = omega (arith, s.requires, numbers_length s.args.year s.args.width s.args.value s.args.index)
 
-put-year-requires : tie.Need-put-year-requires
+put-year-requires : tie.Need-put_year-a-requires
 put-year-requires c κs =
-    let s = c.before.before in
+    let s = c in
     let f = s.ranges.year in
-    simp to_z-of_z (omega (arith, room s))
+    simp to_z-of_z (omega (arith, room s.before.before))
 
-put-width-requires : tie.Need-put-width-requires
+put-width-requires : tie.Need-put_width-b-requires
 put-width-requires c κs =
-    let y = c.before.before.before in
-    let s = y.before.before.before in
+    let y = c in
+    let s = y in
     let f = s.ranges.year in
     let g = s.ranges.width in
-    let p = simp to_z-of_z at y.put-year.ensures in
-    simp to_z-of_z (omega (arith, room s, p.behind, wrote_length p))
+    let p = simp to_z-of_z at y.put_year-a.ensures in
+    simp to_z-of_z (omega (arith, room s.before.before.before.before.before.before, p.behind, wrote_length p))
 
-put-curve-requires : tie.Need-put-curve-requires
+put-curve-requires : tie.Need-put_curve-c-requires
 put-curve-requires c κs =
-    let w = c.before.before.before in
-    let y = w.before.before.before.before in
-    let s = y.before.before.before in
+    let w = c in
+    let y = w in
+    let s = y in
     let f = s.ranges.year in
     let g = s.ranges.width in
     let h = s.ranges.value in
-    let p = simp to_z-of_z at y.put-year.ensures in
-    let q = simp to_z-of_z at w.put-width.ensures in
-    simp to_z-of_z (omega (arith, room s, p.behind, wrote_length p, q.behind, wrote_length q))
+    let p = simp to_z-of_z at y.put_year-a.ensures in
+    let q = simp to_z-of_z at w.put_width-b.ensures in
+    simp to_z-of_z (omega (arith, room s.before.before.before.before.before.before.before.before.before.before, p.behind, wrote_length p, q.behind, wrote_length q))
 
-put-end-requires : tie.Need-put-end-requires
+put-end-requires : tie.Need-put_end-requires
 put-end-requires c κs =
-    let v = c.before.before.before in
-    let w = v.before.before.before.before in
-    let y = w.before.before.before.before in
-    let s = y.before.before.before in
+    let v = c in
+    let w = v in
+    let y = w in
+    let s = y in
     let f = s.ranges.year in
     let g = s.ranges.width in
     let h = s.ranges.value in
     let i = s.ranges.index in
-    let p = simp to_z-of_z at y.put-year.ensures in
-    let q = simp to_z-of_z at w.put-width.ensures in
-    let r = simp to_z-of_z at v.put-curve.ensures in
-    simp to_z-of_z (omega (arith, room s, p.behind, wrote_length p, q.behind, wrote_length q, r.behind, wrote_length r))
+    let p = simp to_z-of_z at y.put_year-a.ensures in
+    let q = simp to_z-of_z at w.put_width-b.ensures in
+    let r = simp to_z-of_z at v.put_curve-c.ensures in
+    simp to_z-of_z (omega (arith, room s.before.before.before.before.before.before.before.before.before.before.before.before.before.before, p.behind, wrote_length p, q.behind, wrote_length q, r.behind, wrote_length r))
 
 returns : tie.Need-returns
 unfolding numbers_text
 returns c =
-    let e = c.before.before in
-    let v = e.before.before.before.before in
-    let w = v.before.before.before.before in
-    let y = w.before.before.before.before in
-    let s = y.before.before.before in
+    let e = c in
+    let v = e in
+    let w = v in
+    let y = w in
+    let s = y in
     let f = s.ranges.year in
     let g = s.ranges.width in
     let h = s.ranges.value in
     let i = s.ranges.index in
-    wrote_then (simp to_z-of_z at y.put-year.ensures)
-    (wrote_then (simp to_z-of_z at w.put-width.ensures)
-    (wrote_then (simp to_z-of_z at v.put-curve.ensures)
-    (simp to_z-of_z at e.put-end.ensures)))
+    wrote_then (simp to_z-of_z at y.put_year-a.ensures)
+    (wrote_then (simp to_z-of_z at w.put_width-b.ensures)
+    (wrote_then (simp to_z-of_z at v.put_curve-c.ensures)
+    (simp to_z-of_z at e.put_end.ensures)))
 
-pub put-numbers-spec : {M : Type 1} → statement M
-put-numbers-spec =
+pub put_numbers_spec : {M : Type 1} → statement M
+put_numbers_spec =
     tie.close
     (tie.spec put-year-requires put-width-requires put-curve-requires put-end-requires (λ c. search rules) returns)

@@ -8,24 +8,24 @@ use Rattle.tucson_putting.proofs.Wrote.{wrote_then, wrote_length}
 use Rattle.table_line.proofs.put_width.Statement.{statement}
 use Rattle.table_line.proofs.put_width.Tie as tie
 
-cast-put-thousandths : tie.Need-overflow-cast-put-thousandths
-cast-put-thousandths c = let f = c.before.before.before.before.before.before.ranges.width in simp to_z-of_z (sfits_widen f)
+cast-put-thousandths : tie.Need-overflow_cast-width
+cast-put-thousandths c = let f = c.ranges.width in simp to_z-of_z (sfits_widen f)
 
-put-thousandths-requires : tie.Need-put-thousandths-requires
+put-thousandths-requires : tie.Need-put_thousandths-requires
 put-thousandths-requires c κs =
-    let s = c.before.before.before.before.before.before in
+    let s = c in
     let f : SFits w32 s.args.width = s.ranges.width in
     let g : SFits w64 s.args.width = sfits_widen f in
-    let p = c.before.before.before.put_byte.ensures in
+    let p = c.put_byte-next.ensures in
     simp to_z-of_z (omega (arith, s.requires, p.behind, wrote_length p))
 
 returns : tie.Need-returns
 returns c =
-    let byte = c.before.before.before.before.before.before in
-    let s = byte.before.before.before in
+    let byte = c in
+    let s = byte in
     let f : SFits w32 s.args.width = s.ranges.width in
     let g : SFits w64 s.args.width = sfits_widen f in
-    wrote_then byte.put_byte.ensures (simp to_z-of_z at c.before.before.put-thousandths.ensures)
+    wrote_then byte.put_byte-next.ensures (simp to_z-of_z at c.put_thousandths.ensures)
 
-pub put-width-spec : {M : Type 1} → statement M
-put-width-spec = tie.close (tie.spec (λ c κs. search rules) cast-put-thousandths put-thousandths-requires (λ c. search rules) returns)
+pub put_width_spec : {M : Type 1} → statement M
+put_width_spec = tie.close (tie.spec (λ c κs. search rules) cast-put-thousandths put-thousandths-requires (λ c. search rules) returns)

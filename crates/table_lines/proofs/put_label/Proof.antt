@@ -16,24 +16,24 @@ record Inv (out₀ : List ℕ) (at : ℕ) (label out : List ℕ) (i : ℕ) : Typ
   within : i ≤ length label
   wrote : Wrote at (take i label) out₀ out (at + i)
 
-abbrev invariant-loop : tie.invariant-loop
+abbrev invariant-loop : tie.invariant-loop-i
 invariant-loop out₀ at label i₀ out i = Inv out₀ at label out i
 
-abbrev decreases-loop : tie.decreases-loop
+abbrev decreases-loop : tie.decreases-loop-i
 decreases-loop out₀ at label i₀ out i = length label - i
 
-loop-holds : tie.Need-loop-init invariant-loop decreases-loop
+loop-holds : tie.Need-loop-i-init invariant-loop decreases-loop
 loop-holds c = record { within = omega arith; wrote = record { contents = (wrote_none _ _).contents; behind = omega arith } }
 
-slice-write-out : tie.Need-slice-write-out invariant-loop decreases-loop
+slice-write-out : tie.Need-bounds-out-at invariant-loop decreases-loop
 slice-write-out c =
-    let l = c.before.before.loop in
-    omega (arith, l.invariant.within, c.before.before.before.requires, wrote_length l.invariant.wrote)
+    let l = c.loop-i in
+    omega (arith, l.invariant.within, c.requires, wrote_length l.invariant.wrote)
 
-loop-again : tie.Need-loop-preserved invariant-loop decreases-loop
+loop-again : tie.Need-loop-i-preserved invariant-loop decreases-loop
 loop-again c =
-    let l = c.before.before.loop in
-    let a = c.before.before.before.args in
+    let l = c.loop-i in
+    let a = c.args in
     let byte = get_or a.label.now l.i 0 in
     let next : Wrote (a.at + l.i) (byte ∷ []) l.out (set l.out (a.at + l.i) byte) (a.at + (l.i + 1)) =
     record { contents = written_byte _ _ _; behind = omega arith } in
@@ -43,16 +43,16 @@ loop-again c =
           (wrote_then l.invariant.wrote next);
     }
 
-same_length : tie.Need-same-length invariant-loop decreases-loop
-same_length c = wrote_length c.before.loop.invariant.wrote
+same_length : tie.Need-shape_of-out invariant-loop decreases-loop
+same_length c = wrote_length c.loop-i.invariant.wrote
 
 returns : tie.Need-returns invariant-loop decreases-loop
 returns c =
-    let l = c.before.loop in
-    wrote_as (take_all l.i c.before.before.args.label.now (omega arith)) l.invariant.wrote
+    let l = c.loop-i in
+    wrote_as (take_all l.i c.args.label.now (omega arith)) l.invariant.wrote
 
-pub put-label-spec : {M : Type 1} → statement M
-put-label-spec =
+pub put_label_spec : {M : Type 1} → statement M
+put_label_spec =
     tie.close
     (tie.spec
     invariant-loop

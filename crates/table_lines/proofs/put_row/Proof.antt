@@ -8,26 +8,26 @@ use Rattle.tucson_putting.proofs.Wrote.{wrote_then, wrote_length}
 use Rattle.table_lines.proofs.put_row.Statement.{statement}
 use Rattle.table_lines.proofs.put_row.Tie as tie
 
-put-numbers-requires : tie.Need-put-numbers-requires
+put-numbers-requires : tie.Need-put_numbers-requires
 put-numbers-requires c κs =
-    let p = c.before.before.before in
-    let s = p.before.before.before.before in
+    let p = c in
+    let s = p in
     let y = s.ranges.year in
     let w = s.ranges.width in
     let v = s.ranges.value in
     let i = s.ranges.index in
-    let q = p.put-label.ensures in
+    let q = p.put_label-next.ensures in
     simp to_z-of_z (omega (arith, s.requires, q.behind, wrote_length q))
 
 returns : tie.Need-returns
 returns c =
-    let p = c.before.before.before.before.before.before in
-    let s = p.before.before.before.before in
+    let p = c in
+    let s = p in
     let y = s.ranges.year in
     let w = s.ranges.width in
     let v = s.ranges.value in
     let i = s.ranges.index in
-    wrote_then p.put-label.ensures (simp to_z-of_z at c.before.before.put-numbers.ensures)
+    wrote_then p.put_label-next.ensures (simp to_z-of_z at c.put_numbers.ensures)
 
-pub put-row-spec : {M : Type 1} → statement M
-put-row-spec = tie.close (tie.spec (λ c κs. search rules) put-numbers-requires (λ c. search rules) returns)
+pub put_row_spec : {M : Type 1} → statement M
+put_row_spec = tie.close (tie.spec (λ c κs. search rules) put-numbers-requires (λ c. search rules) returns)

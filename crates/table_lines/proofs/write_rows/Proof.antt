@@ -19,36 +19,36 @@ given s =
     rows s.args.label.now s.args.first s.args.cell s.args.widths.now s.args.values.now s.args.indices.now
 
 -- the room's test
-module _ (c : tie.After-rows-fit) where
+module _ (c : tie.After-rows_fit) where
   abbrev s : tie.Start
   s = c.before.before.before
 
   room-test : leb (length (rows_text (given s) (length (given s).widths))) (length s.args.out.now) ≡ c.rows_fit.result
-  room-test = let f : SFits w32 s.args.first = s.fits.first in sym (simp to_z-of_z at c.rows_fit.ensures)
+  room-test = let f : SFits w32 s.args.first = s.ranges.first in sym (simp to_z-of_z at c.rows_fit.ensures)
 
-rows-fit-requires : tie.Need-rows-fit-requires
+rows-fit-requires : tie.Need-rows_fit-requires
 rows-fit-requires c κs =
-    let s = c.before.before in
+    let s = c in
     let f : SFits w32 s.args.first = s.ranges.first in
     simp to_z-of_z s.requires
 
-returns : tie.Need-returns
+returns : tie.Need-returns-then-not-rows_fit
 returns c =
-    let t = c.before in
-    rows_short (given (s t)) (s t).args.out.now (room-test t ∙ not-true _ c.if1.true)
+    let t = c in
+    rows_short (given (s t.before)) (s t.before).args.out.now (room-test t.before ∙ c.if-not-rows_fit.true)
 
-put-rows-requires : tie.Need-put-rows-requires
+put-rows-requires : tie.Need-put_rows-count-requires
 put-rows-requires c κs =
-    let t = c.before.before in
-    let f : SFits w32 (s t).args.first = (s t).ranges.first in
-    simp to_z-of_z (record { lists = (s t).requires; fits = leb-true _ _ (room-test t ∙ not-false _ c.before.if1.false) })
+    let t = c in
+    let f : SFits w32 (s t.before.before).args.first = (s t.before.before).ranges.first in
+    simp to_z-of_z (record { lists = (s t.before.before).requires; fits = leb-true _ _ (room-test t.before.before ∙ c.if-not-rows_fit.false) })
 
-returns-2 : tie.Need-returns-2
+returns-2 : tie.Need-returns
 returns-2 c =
-    let e = c.before.before.before.before in
-    let t = e.before in
-    let f : SFits w32 (s t).args.first = (s t).ranges.first in
-    rows_written (given (s t)) (s t).args.out.now (room-test t ∙ not-false _ e.if1.false) (simp to_z-of_z at c.before.before.put-rows.ensures)
+    let e = c in
+    let t = e in
+    let f : SFits w32 (s t.before.before.before.before.before).args.first = (s t.before.before.before.before.before).ranges.first in
+    rows_written (given (s t.before.before.before.before.before)) (s t.before.before.before.before.before).args.out.now (room-test t.before.before.before.before.before ∙ e.if-not-rows_fit.false) (simp to_z-of_z at c.put_rows-count.ensures)
 
-pub write-rows-spec : {M : Type 1} → statement M
-write-rows-spec = tie.close (tie.spec rows-fit-requires returns put-rows-requires (λ c. search rules) returns-2)
+pub write_rows_spec : {M : Type 1} → statement M
+write_rows_spec = tie.close (tie.spec rows-fit-requires returns put-rows-requires (λ c. search rules) returns-2)

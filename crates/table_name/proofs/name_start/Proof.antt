@@ -8,34 +8,34 @@ use Rattle.table_name.proofs.Name.{leading-blank, leading_other, leading_end}
 use Rattle.table_name.proofs.name_start.Statement.{statement}
 use Rattle.table_name.proofs.name_start.Tie as tie
 
-abbrev invariant-loop : tie.invariant-loop
+abbrev invariant-loop : tie.invariant-loop-i
 invariant-loop name i₀ i = (i ≤ length name) × (without_leading name ≡ without_leading (drop i name))
 
-abbrev decreases-loop : tie.decreases-loop
+abbrev decreases-loop : tie.decreases-loop-i
 decreases-loop name i₀ i = length name - i
 
-loop-holds : tie.Need-loop-init invariant-loop decreases-loop
+loop-holds : tie.Need-loop-i-init invariant-loop decreases-loop
 loop-holds c = (omega arith, refl)
 
-returns : tie.Need-returns invariant-loop decreases-loop
+returns : tie.Need-returns-then-name-i-ne32 invariant-loop decreases-loop
 returns c =
-    let l = c.before.before.before.loop in
-    let name = c.before.before.before.before.args.name.now in
-    record { within = omega arith; is = sym (l.invariant.1 ∙ leading_other name l.i (omega arith) c.if1.true) }
+    let l = c.loop-i in
+    let name = c.args.name.now in
+    record { within = omega arith; is = sym (l.invariant.1 ∙ leading_other name l.i (omega arith) c.if-name-i-ne32.true) }
 
-loop-again : tie.Need-loop-preserved invariant-loop decreases-loop
+loop-again : tie.Need-loop-i-preserved invariant-loop decreases-loop
 loop-again c =
-    let l = c.before.before.before.loop in
-    let name = c.before.before.before.before.args.name.now in
-    (omega arith, l.invariant.1 ∙ leading-blank name l.i (omega arith) c.if1.false)
+    let l = c.loop-i in
+    let name = c.args.name.now in
+    (omega arith, l.invariant.1 ∙ leading-blank name l.i (omega arith) c.if-name-i-ne32.false)
 
-returns-2 : tie.Need-returns-2 invariant-loop decreases-loop
+returns-2 : tie.Need-returns invariant-loop decreases-loop
 returns-2 c =
-    let l = c.before.loop in
-    record { within = l.invariant.0; is = sym (l.invariant.1 ∙ leading_end c.before.before.args.name.now l.i c.loop-test.false l.invariant.0) }
+    let l = c.loop-i in
+    record { within = l.invariant.0; is = sym (l.invariant.1 ∙ leading_end c.args.name.now l.i c.loop-i-test.false l.invariant.0) }
 
-pub name-start-spec : {M : Type 1} → statement M
-name-start-spec =
+pub name_start_spec : {M : Type 1} → statement M
+name_start_spec =
     tie.close
     (tie.spec
     invariant-loop

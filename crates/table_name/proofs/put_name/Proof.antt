@@ -13,8 +13,8 @@ use Rattle.table_name.proofs.Name.{printed-front}
 use Rattle.table_name.proofs.put_name.Statement.{statement}
 use Rattle.table_name.proofs.put_name.Tie as tie
 
-module _ (c : tie.After-trim-blanks) where
-  abbrev start : tie.After-name-start
+module _ (c : tie.After-trim_blanks-left) where
+  abbrev start : tie.After-name_start-start
   start = c.before.before
 
   abbrev s : tie.Start
@@ -24,43 +24,43 @@ module _ (c : tie.After-trim-blanks) where
   name = s.args.name.now
 
   abbrev rest : Text
-  rest = take (length name - start.name-start.result) (drop start.name-start.result name)
+  rest = take (length name - start.name_start-start.result) (drop start.name_start-start.result name)
 
-  rest_is : rest ≡ drop start.name-start.result name
-  rest_is = part-rest start.name-start.result name
+  rest_is : rest ≡ drop start.name_start-start.result name
+  rest_is = part-rest start.name_start-start.result name
 
-  rest_length : length rest ≡ length name - start.name-start.result
-  rest_length = ap length rest_is ∙ length-drop start.name-start.result name
+  rest_length : length rest ≡ length name - start.name_start-start.result
+  rest_length = ap length rest_is ∙ length-drop start.name_start-start.result name
 
-  bare_length : length (take c.trim-blanks.result rest) ≡ c.trim-blanks.result
-  bare_length = length-take-le c.trim-blanks.result rest (omega (arith, rest_length, c.trim-blanks.ensures.fewer))
+  bare_length : length (take c.trim_blanks-left.result rest) ≡ c.trim_blanks-left.result
+  bare_length = length-take-le c.trim_blanks-left.result rest (omega (arith, rest_length, c.trim_blanks-left.ensures.fewer))
 
-  bare_is : take c.trim-blanks.result rest ≡ bare_name name
+  bare_is : take c.trim_blanks-left.result rest ≡ bare_name name
   unfolding bare_name
   bare_is =
-      c.trim-blanks.ensures.is
-      ∙ ap trimmed (take_all (length rest) rest (omega arith) ∙ rest_is ∙ start.name-start.ensures.is)
+      c.trim_blanks-left.ensures.is
+      ∙ ap trimmed (take_all (length rest) rest (omega arith) ∙ rest_is ∙ start.name_start-start.ensures.is)
 
-slice-aggregate-put-quoted : tie.Need-slice-aggregate-put-quoted
-slice-aggregate-put-quoted c = sym (bare_length c.before.before)
+slice-aggregate-put-quoted : tie.Need-slice_bounds-put_quoted-end
+slice-aggregate-put-quoted c = sym (bare_length c.before)
 
-put-quoted-requires : tie.Need-put-quoted-requires
+put-quoted-requires : tie.Need-put_quoted-requires
 put-quoted-requires c κs =
-    let t = c.before.before in
-    omega (arith, bare_length t, t.trim-blanks.ensures.fewer, (s t).requires.whole)
+    let t = c in
+    omega (arith, bare_length t.before, t.trim_blanks-left.ensures.fewer, (s t.before).requires.whole)
 
 returns : tie.Need-returns
 returns c =
-    let t = c.before.before.before.before.before in
-    let p = c.before.before.put-quoted.ensures in
+    let t = c in
+    let p = c.put_quoted.ensures in
     record {
       within = p.few;
-      counted = p.count_is ∙ ap (λ (u : Text). length (quoted_name u)) (bare_is t);
-      is = printed-front (s t).requires.room p ∙ ap quoted_name (bare_is t);
+      counted = p.count_is ∙ ap (λ (u : Text). length (quoted_name u)) (bare_is t.before.before.before.before);
+      is = printed-front (s t.before.before.before.before).requires.room p ∙ ap quoted_name (bare_is t.before.before.before.before);
     }
 
-pub put-name-spec : {M : Type 1} → statement M
-put-name-spec =
+pub put_name_spec : {M : Type 1} → statement M
+put_name_spec =
     tie.close
     (tie.spec
     (λ c κs. search rules)

@@ -26,13 +26,13 @@ module _ (c : tie.Start) where
   product : SFits w64 (value *ℤ pos 125)
   product = sfits_abs (omega (arith, small))
 
-cast-round-div : tie.Need-overflow-cast-round-div
+cast-round-div : tie.Need-overflow_cast-value
 cast-round-div c = let f = narrow c in simp to_z-of_z (wide c)
 
-mul-round-div : tie.Need-overflow-mul-round-div
+mul-round-div : tie.Need-overflow_mul-value
 mul-round-div c = let f = narrow c in let g = wide c in simp to_z-of_z (product c)
 
-round-div-requires : tie.Need-round-div-requires
+round-div-requires : tie.Need-round_div-requires
 round-div-requires c κs = let f = narrow c in let g = wide c in let h = product c in simp to_z-of_z (small c, (record { lt = tt }, omega arith))
 
 returns : tie.Need-returns
@@ -41,8 +41,8 @@ returns c =
     let f = narrow c.before in
     let g = wide c.before in
     let h = product c.before in
-    let r : SFits w64 c.round-div.result = record { sfits = c.round-div.type-inv } in
-    simp to_z-of_z (simp to_z-of_z at c.round-div.ensures)
+    let r : SFits w64 c.round_div.result = record { sfits = c.round_div.type_inv } in
+    simp to_z-of_z (simp to_z-of_z at c.round_div.ensures)
 
-pub millionths-spec : {M : Type 1} → statement M
-millionths-spec = tie.close (tie.spec cast-round-div mul-round-div round-div-requires returns)
+pub millionths_spec : {M : Type 1} → statement M
+millionths_spec = tie.close (tie.spec cast-round-div mul-round-div round-div-requires returns)

@@ -8,5 +8,5 @@ use Rattle.table_numbers.proofs.put_byte.Tie as tie
 returns : tie.Need-returns
 returns c = record { contents = written_byte _ _ _; behind = omega arith }
 
-pub put-byte-spec : {M : Type 1} → statement M
-put-byte-spec = tie.close (tie.spec (λ c. search rules) (λ c. search rules) (λ c. search rules) returns)
+pub put_byte_spec : {M : Type 1} → statement M
+put_byte_spec = tie.close (tie.spec (λ c. search rules) (λ c. search rules) (λ c. search rules) returns)

@@ -10,9 +10,9 @@ use Rattle.table_numbers.proofs.put_digits.Tie as tie
 
 returns : tie.Need-returns
 returns c =
-    let d = c.before.before.before.before in
-    let n = d.before.before.args.n in
-    wrote_as (ap (λ (k : ℕ). last_digits k n) d.digit-count.ensures.0 ∙ digits_all n) c.before.before.put-last-digits.ensures
+    let d = c in
+    let n = d.args.n in
+    wrote_as (ap (λ (k : ℕ). last_digits k n) d.digit_count-count.ensures.0 ∙ digits_all n) c.put_last_digits.ensures
 
-pub put-digits-spec : {M : Type 1} → statement M
-put-digits-spec = tie.close (tie.spec (λ c κs. search rules) (λ c κs. search rules) (λ c. search rules) returns)
+pub put_digits_spec : {M : Type 1} → statement M
+put_digits_spec = tie.close (tie.spec (λ c κs. search rules) (λ c κs. search rules) (λ c. search rules) returns)

@@ -20,25 +20,25 @@ record Inv (out₀ : List ℕ) (at n count : ℕ) (out : List ℕ) (rest i : ℕ
   digits_are : text.last_digits i rest ++ behind ≡ text.last_digits count n
   out_is : out ≡ written (at + i) behind out₀
 
-abbrev invariant-loop : tie.invariant-loop
+abbrev invariant-loop : tie.invariant-loop-i
 invariant-loop out₀ at n count rest₀ i₀ out rest i = Inv out₀ at n count out rest i
 
-abbrev decreases-loop : tie.decreases-loop
+abbrev decreases-loop : tie.decreases-loop-i
 decreases-loop out₀ at n count rest₀ i₀ out rest i = i
 
-loop-holds : tie.Need-loop-init invariant-loop decreases-loop
+loop-holds : tie.Need-loop-i-init invariant-loop decreases-loop
 loop-holds c = record { within = omega arith; behind = []; digits_are = append-nil _; out_is = written_none _ _ }
 
-slice-write-out : tie.Need-slice-write-out invariant-loop decreases-loop
+slice-write-out : tie.Need-bounds-out-at invariant-loop decreases-loop
 slice-write-out c =
-    let v = c.before.loop.invariant in
-    omega (arith, v.within, c.before.before.requires, ap length v.out_is, written_length (c.before.before.args.at + c.before.loop.i) v.behind c.before.before.args.out.now)
+    let v = c.loop-i.invariant in
+    omega (arith, v.within, c.requires, ap length v.out_is, written_length (c.args.at + c.loop-i.i) v.behind c.args.out.now)
 
-loop-again : tie.Need-loop-preserved invariant-loop decreases-loop
+loop-again : tie.Need-loop-i-preserved invariant-loop decreases-loop
 loop-again c =
-    let l = c.before.loop in
+    let l = c.loop-i in
     let v = l.invariant in
-    let a = c.before.before.args in
+    let a = c.args in
     record {
       within = omega arith;
       behind = last_digit l.rest ++ v.behind;
@@ -53,15 +53,15 @@ loop-again c =
           ∙ written-prepend (a.at + (l.i - 1)) (last_digit l.rest) v.behind a.out.now;
     }
 
-same_length : tie.Need-same-length invariant-loop decreases-loop
-same_length c = ap length c.before.loop.invariant.out_is ∙ written_length _ _ _
+same_length : tie.Need-shape_of-out invariant-loop decreases-loop
+same_length c = ap length c.loop-i.invariant.out_is ∙ written_length _ _ _
 
 returns : tie.Need-returns invariant-loop decreases-loop
 unfolding text.last_digits
 returns c =
-    let l = c.before.loop in
+    let l = c.loop-i in
     let v = l.invariant in
-    let a = c.before.before.args in
+    let a = c.args in
     let none_left : l.i ≡ 0 = omega arith in
     record {
       contents =
@@ -72,8 +72,8 @@ returns c =
       behind = omega (arith, last_length a.count a.n);
     }
 
-pub put-last-digits-spec : {M : Type 1} → statement M
-put-last-digits-spec =
+pub put_last_digits_spec : {M : Type 1} → statement M
+put_last_digits_spec =
     tie.close
     (tie.spec
     invariant-loop

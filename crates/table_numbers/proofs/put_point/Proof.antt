@@ -6,10 +6,10 @@ use Rattle.table_numbers.proofs.put_point.Tie as tie
 
 returns : tie.Need-returns
 returns c =
-    let last = c.before.before in
-    let byte = last.before.before.before.before in
-    let wholes = byte.before.before.before.before in
-    wrote_then wholes.put-digits.ensures (wrote_then byte.put_byte.ensures last.put-last-digits.ensures)
+    let last = c in
+    let byte = last in
+    let wholes = byte in
+    wrote_then wholes.put_digits-a.ensures (wrote_then byte.put_byte-b.ensures last.put_last_digits.ensures)
 
-pub put-point-spec : {M : Type 1} → statement M
-put-point-spec = tie.close (tie.spec (λ c κs. search rules) (λ c κs. search rules) (λ c κs. search rules) (λ c. search rules) returns)
+pub put_point_spec : {M : Type 1} → statement M
+put_point_spec = tie.close (tie.spec (λ c κs. search rules) (λ c κs. search rules) (λ c κs. search rules) (λ c. search rules) returns)

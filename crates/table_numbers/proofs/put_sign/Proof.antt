@@ -15,19 +15,19 @@ use Rattle.table_numbers.proofs.Digits.{sign_below, sign-none}
 use Rattle.table_numbers.proofs.put_sign.Statement.{statement}
 use Rattle.table_numbers.proofs.put_sign.Tie as tie
 
-minus_is : (c : tie.Then1) → minus ∷ [] ≡ sign c.before.args.z
-minus_is c = let f = c.before.ranges.z in sign_below c.before.args.z (lt_z_true _ _ (simp to_z-of_z at c.if1.true))
+minus_is : (c : tie.Then-z-lt0) → minus ∷ [] ≡ sign c.args.z
+minus_is c = let f = c.ranges.z in sign_below c.args.z (lt_z_true _ _ (simp to_z-of_z at c.if-z-lt0.true))
 
-slice-write-out : tie.Need-slice-write-out
-slice-write-out c = omega (arith, ap length (minus_is c), c.before.requires)
+slice-write-out : tie.Need-bounds-out-at
+slice-write-out c = omega (arith, ap length (minus_is c), c.requires)
 
-returns : tie.Need-returns
+returns : tie.Need-returns-then-z-lt0
 returns c = wrote_as (minus_is c) (record { contents = written_byte _ _ _; behind = omega arith })
 
-returns-2 : tie.Need-returns-2
+returns-2 : tie.Need-returns
 returns-2 c =
-    let f = c.before.ranges.z in
-    wrote_as (sign-none c.before.args.z (lt_z_false _ _ (simp to_z-of_z at c.if1.false))) (wrote_none _ _)
+    let f = c.ranges.z in
+    wrote_as (sign-none c.args.z (lt_z_false _ _ (simp to_z-of_z at c.if-z-lt0.false))) (wrote_none _ _)
 
-pub put-sign-spec : {M : Type 1} → statement M
-put-sign-spec = tie.close (tie.spec slice-write-out (λ c. search rules) (λ c. search rules) returns returns-2)
+pub put_sign_spec : {M : Type 1} → statement M
+put_sign_spec = tie.close (tie.spec slice-write-out (λ c. search rules) (λ c. search rules) returns returns-2)

@@ -13,14 +13,14 @@ use Rattle.table_numbers.proofs.thousandths_size.Tie as tie
 
 returns : tie.Need-returns
 returns c =
-    let s = c.before.before.before in
+    let s = c in
     let f = s.ranges.z in
-    let signs = simp to_z-of_z at c.before.before.sign-size.ensures in
-    let size : c.before.magnitude.result ≡ nat_abs s.args.z = simp to_z-of_z at c.before.magnitude.ensures in
-    let count = c.digit-count.ensures in
+    let signs = simp to_z-of_z at c.sign_size-signs.ensures in
+    let size : c.magnitude-size.result ≡ nat_abs s.args.z = simp to_z-of_z at c.magnitude-size.ensures in
+    let count = c.digit_count.ensures in
     (omega (arith, signs.0, count.0, ap (λ (k : ℕ). length (digits (k / 1000))) size, decimals_length 3 s.args.z), omega (arith, signs.1, count.1))
 
-pub thousandths-size-spec : {M : Type 1} → statement M
-thousandths-size-spec =
+pub thousandths_size_spec : {M : Type 1} → statement M
+thousandths_size_spec =
     tie.close
     (tie.spec (λ c κs. search rules) (λ c κs. search rules) (λ c κs. search rules) (λ c. search rules) (λ c. search rules) (λ c. search rules) returns)

@@ -7,15 +7,15 @@ use Rattle.tucson_caption.proofs.Captions.{front_told}
 use Rattle.tucson_caption.proofs.front.Statement.{statement}
 use Rattle.tucson_caption.proofs.front.Tie as tie
 
-expand-requires : tie.Need-expand-requires
+expand-requires : tie.Need-expand-head-requires
 expand-requires c κs =
-    let k = c.before in
-    let s = k.before.before.before in
+    let k = c in
+    let s = k in
     record {
       size = s.requires.size;
       range = record {
-        ordered = k.shown-to.ensures.after;
-        within = omega (arith, k.shown-to.ensures.before, end_within s.args.text.now s.args.from s.args.end s.requires.at);
+        ordered = k.shown_to-to.ensures.after;
+        within = omega (arith, k.shown_to-to.ensures.before, end_within s.args.text.now s.args.from s.args.end s.requires.at);
       };
       fewer = omega arith;
       fits = omega arith;
@@ -24,11 +24,11 @@ expand-requires c κs =
 
 returns : tie.Need-returns
 returns c =
-    let x = c.before.before in
-    let k = x.before.before in
-    let s = k.before.before.before in
-    front_told s.args.text.now s.args.from s.args.end k.shown-to.result s.args.bytes.now x.expand.new.1.1.1.1.1.0 k.shown-to.ensures
-    (x.expand.auto.1.1.1.1.1.0 ∙ s.requires.size) x.expand.result.at x.expand.result.count x.expand.ensures
+    let x = c in
+    let k = x in
+    let s = k in
+    front_told s.args.text.now s.args.from s.args.end k.shown_to-to.result s.args.bytes.now x.expand-head.new.bytes k.shown_to-to.ensures
+    (x.expand-head.auto.bytes ∙ s.requires.size) x.expand-head.result.at x.expand-head.result.count x.expand-head.ensures
 
-pub front-spec : {M : Type 1} → statement M
-front-spec = tie.close (tie.spec (λ c κs. search rules) expand-requires (λ c. search rules) returns)
+pub front_spec : {M : Type 1} → statement M
+front_spec = tie.close (tie.spec (λ c κs. search rules) expand-requires (λ c. search rules) returns)

@@ -20,11 +20,11 @@ above b h = go (ltb 57 b) refl ∙ sym (ap (λ (x : Bool). not (x && ltb b 58)) 
     go true e = sym (ap not (le-ltb b 58 (omega (arith, ltb-true 57 b e))))
     go false e = sym (ap not (lt-ltb b 58 (omega (arith, ltb-false 57 b e))))
 
-returns : tie.Need-returns
-returns c = below c.before.byte-in.result c.if1.true ∙ ap (λ (b : ℕ). not (is_digit b)) c.before.byte-in.ensures
+returns : tie.Need-returns-then-byte-lt48
+returns c = below c.byte_in-byte.result c.if-byte-lt48.true ∙ ap (λ (b : ℕ). not (is_digit b)) c.byte_in-byte.ensures
 
-returns-2 : tie.Need-returns-2
-returns-2 c = above c.before.byte-in.result c.if1.false ∙ ap (λ (b : ℕ). not (is_digit b)) c.before.byte-in.ensures
+returns-2 : tie.Need-returns
+returns-2 c = above c.byte_in-byte.result c.if-byte-lt48.false ∙ ap (λ (b : ℕ). not (is_digit b)) c.byte_in-byte.ensures
 
-pub no-digit-spec : {M : Type 1} → statement M
-no-digit-spec = tie.close (tie.spec (λ c κs. search rules) returns returns-2)
+pub no_digit_spec : {M : Type 1} → statement M
+no_digit_spec = tie.close (tie.spec (λ c κs. search rules) returns returns-2)

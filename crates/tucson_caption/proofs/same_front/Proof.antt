@@ -11,45 +11,45 @@ use Rattle.tucson_caption.proofs.Captions.{front-differs, front-begins, front-wi
 use Rattle.tucson_caption.proofs.same_front.Statement.{statement}
 use Rattle.tucson_caption.proofs.same_front.Tie as tie
 
-module _ (c : tie.After-common2) where
+module _ (c : tie.After-common-size) where
   abbrev s : tie.Start
   s = c.before.before.before.before
 
-  key_is : c.before.common.result ≡ name_front s.args.past
-  key_is = c.before.common.ensures
+  key_is : c.common-key.result ≡ name_front s.args.past
+  key_is = c.common-key.ensures
 
-  size_is : c.common2.result ≡ name_front s.args.count
-  size_is = c.common2.ensures
+  size_is : c.common-size.result ≡ name_front s.args.count
+  size_is = c.common-size.ensures
 
-returns : tie.Need-returns
+returns : tie.Need-returns-then-key-size
 returns c =
-    let k = c.before in
-    sym (front-differs (s k).args.head.now (s k).args.past (s k).args.bytes.now (s k).args.count (s k).requires.head-within (s k).requires.within
-    (λ e. c.if1.true (key_is k ∙ e ∙ sym (size_is k))))
+    let k = c in
+    sym (front-differs (s k.before).args.head.now (s k.before).args.past (s k.before).args.bytes.now (s k.before).args.count (s k.before).requires.head-within (s k.before).requires.within
+    (λ e. c.if-key-size.true (key_is k.before ∙ e ∙ sym (size_is k.before))))
 
-slice-aggregate-begins : tie.Need-slice-aggregate-begins
+slice-aggregate-begins : tie.Need-slice_bounds-begins-end
 slice-aggregate-begins c =
-    let k = c.before.before in
-    sym (length-take-le k.before.common.result (s k).args.head.now
-    (omega (arith, key_is k, front-within (s k).args.past (length (s k).args.head.now) (s k).requires.head-within)))
+    let k = c in
+    sym (length-take-le k.common-key.result (s k.before).args.head.now
+    (omega (arith, key_is k.before, front-within (s k.before).args.past (length (s k.before).args.head.now) (s k.before).requires.head-within)))
 
 begins-requires : tie.Need-begins-requires
 begins-requires c κs =
-    let k = c.before.before in
+    let k = c in
     record {
       ordered = omega arith;
-      within = omega (arith, size_is k, front-within (s k).args.count (length (s k).args.bytes.now) (s k).requires.within);
+      within = omega (arith, size_is k.before, front-within (s k.before).args.count (length (s k.before).args.bytes.now) (s k.before).requires.within);
     }
 
-returns-2 : tie.Need-returns-2
+returns-2 : tie.Need-returns
 returns-2 c =
-    let k = c.before.before.before in
-    let same = c.before.before.if1.false in
+    let k = c in
+    let same = c.if-key-size.false in
     c.begins.ensures
-    ∙ ap₂ (λ (a b : ℕ). begins_with (take a (s k).args.head.now) (take b (s k).args.bytes.now)) (key_is k) (size_is k)
-    ∙ sym (front-begins (s k).args.head.now (s k).args.past (s k).args.bytes.now (s k).args.count (s k).requires.head-within (s k).requires.within
-    (sym (key_is k) ∙ same ∙ size_is k))
+    ∙ ap₂ (λ (a b : ℕ). begins_with (take a (s k.before.before).args.head.now) (take b (s k.before.before).args.bytes.now)) (key_is k.before.before) (size_is k.before.before)
+    ∙ sym (front-begins (s k.before.before).args.head.now (s k.before.before).args.past (s k.before.before).args.bytes.now (s k.before.before).args.count (s k.before.before).requires.head-within (s k.before.before).requires.within
+    (sym (key_is k.before.before) ∙ same ∙ size_is k.before.before))
 
-pub same-front-spec : {M : Type 1} → statement M
-same-front-spec =
+pub same_front_spec : {M : Type 1} → statement M
+same_front_spec =
     tie.close (tie.spec (λ c κs. search rules) (λ c κs. search rules) returns slice-aggregate-begins begins-requires returns-2)

@@ -11,23 +11,23 @@ use Rattle.tucson_check.proofs.finish.Statement.{statement}
 use Rattle.tucson_check.proofs.finish.Tie as tie
 
 judge-requires : tie.Need-judge-requires
-judge-requires c κs = let p = c.before.before.before.requires in record { strict = p.strict c.if1.true; numbered = p.numbered c.if1.true }
+judge-requires c κs = let p = c.requires in record { strict = p.strict c.if-h.true; numbered = p.numbered c.if-h.true }
 
-returns : tie.Need-returns
+returns : tie.Need-returns-then-h
 returns c end shown holds =
-    let k = c.before.before in
-    let a = k.before.before.before.args in
+    let k = c in
+    let a = k.args in
     let held : LineHeld a.unit a.h shown a.old.now end (λ before. answer []) =
-    subst (λ (x : Bool). HoldsBy x a.unit a.h shown a.old.now end (λ before. answer [])) k.if1.true holds in
-    let b = c.before.judge.ensures held.line held.before held.begun held.is_text held.is_number held.follows_is held.tracks in
-    c.conclude.ensures a.unit b.begun-behind (some held.line) ∙ sym (held-last a.unit a.h shown a.old.now end held c.before.judge.result b)
+    subst (λ (x : Bool). HoldsBy x a.unit a.h shown a.old.now end (λ before. answer [])) k.if-h.true holds in
+    let b = c.judge.ensures held.line held.before held.begun held.is_text held.is_number held.follows_is held.tracks in
+    c.conclude.ensures a.unit b.begun-behind (some held.line) ∙ sym (held-last a.unit a.h shown a.old.now end held c.judge.result b)
 
-returns-2 : tie.Need-returns-2
+returns-2 : tie.Need-returns
 returns-2 c end shown holds =
-    let a = c.before.before.before.before.args in
+    let a = c.args in
     let unheld : NoneHeld a.unit a.h.judged end (λ before. answer []) =
-    subst (λ (x : Bool). HoldsBy x a.unit a.h shown a.old.now end (λ before. answer [])) c.before.if1.false holds in
-    c.conclude2.ensures a.unit none none ∙ sym unheld.ends
+    subst (λ (x : Bool). HoldsBy x a.unit a.h shown a.old.now end (λ before. answer [])) c.if-h.false holds in
+    c.conclude-2.ensures a.unit none none ∙ sym unheld.ends
 
 pub finish_spec : {M : Type 1} → statement M
 finish_spec = tie.close (tie.spec judge-requires (λ c κs. search rules) returns (λ c κs. search rules) returns-2)

@@ -7,17 +7,17 @@ use Rattle.spec_tucson.specs.KeptLines.{is_data}
 use Rattle.tucson_check.proofs.is_data.Statement.{statement}
 use Rattle.tucson_check.proofs.is_data.Tie as tie
 
-returns : tie.Need-returns
+returns : tie.Need-returns-then-is_blank_line
 unfolding is_data
 returns c =
-    let a = c.before.before.before.args in
-    sym (ap (λ (b : Bool). not b && ltb a.header a.number) (sym c.before.is-blank-line.ensures ∙ c.if1.true))
+    let a = c.args in
+    sym (ap (λ (b : Bool). not b && ltb a.header a.number) (sym c.is_blank_line.ensures ∙ c.if-is_blank_line.true))
 
-returns-2 : tie.Need-returns-2
+returns-2 : tie.Need-returns
 unfolding is_data
 returns-2 c =
-    let a = c.before.before.before.args in
-    sym (ap (λ (b : Bool). not b && ltb a.header a.number) (sym c.before.is-blank-line.ensures ∙ c.if1.false))
+    let a = c.args in
+    sym (ap (λ (b : Bool). not b && ltb a.header a.number) (sym c.is_blank_line.ensures ∙ c.if-is_blank_line.false))
 
-pub is-data-spec : {M : Type 1} → statement M
-is-data-spec = tie.close (tie.spec (λ c κs. search rules) returns returns-2)
+pub is_data_spec : {M : Type 1} → statement M
+is_data_spec = tie.close (tie.spec (λ c κs. search rules) returns returns-2)

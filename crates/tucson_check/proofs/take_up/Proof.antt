@@ -21,89 +21,89 @@ use Rattle.tucson_check.proofs.HeldLines.{holds_same, holds_refused, held_bytes}
 use Rattle.tucson_check.proofs.take_up.Statement.{statement}
 use Rattle.tucson_check.proofs.take_up.Tie as tie
 
-returns : tie.Need-returns
+returns : tie.Need-returns-in-Malformed
 returns c end raw later told held =
-    let a = c.before.before.args in
-    let bad = subst (λ (s : Strict). StrictTold raw s a.t5 a.t6) c.enum_told.given.1 told in
+    let a = c.args in
+    let bad = subst (λ (s : Strict). StrictTold raw s a.shown a.line) c.in-Malformed.is told in
     holds_refused a.unit a.held _ _ end (taking a.number raw later) a.held.some 11 a.number held.holds
     (λ before. ap (λ (o : Outcome Text). o then λ t. kept_then before (record { line = a.number; raw = raw; text = t }) later) (bad a.number))
 
-returns-2 : tie.Need-returns-2
+returns-2 : tie.Need-returns-in-NotAscii
 returns-2 c end raw later told held =
-    let a = c.before.before.args in
-    let bad = subst (λ (s : Strict). StrictTold raw s a.t5 a.t6) c.enum-told2.given.1 told in
+    let a = c.args in
+    let bad = subst (λ (s : Strict). StrictTold raw s a.shown a.line) c.in-NotAscii.is told in
     holds_refused a.unit a.held _ _ end (taking a.number raw later) a.held.some 22 a.number held.holds
     (λ before. ap (λ (o : Outcome Text). o then λ t. kept_then before (record { line = a.number; raw = raw; text = t }) later) (bad a.number))
 
 -- a strict line
-module _ (c : tie.After-known-told) where
+module _ (c : tie.In-Line) where
   abbrev s : tie.Start
-  s = c.before.before.before
+  s = c.before
 
   abbrev m : ℕ
-  m = c.before.strict.given.0.0
+  m = c.in-Line.m
 
   abbrev n : ℕ
-  n = c.before.strict.given.0.1.0
+  n = c.in-Line.n
 
-  fits : (m ≤ length s.args.t5) × ((n ≤ length s.args.t6) × (is_strict (take n s.args.t6) ≡ true))
-  fits = subst (λ (x : Strict). StrictFits x s.args.t5 s.args.t6) c.before.strict.given.1 s.pre.fits
+  fits : (m ≤ length s.args.shown) × ((n ≤ length s.args.line) × (is_strict (take n s.args.line) ≡ true))
+  fits = subst (λ (x : Strict). StrictFits x s.args.shown s.args.line) c.in-Line.is s.requires.fits
 
-slice-aggregate-follow : tie.Need-slice-aggregate-follow
-slice-aggregate-follow c = let k = c.before in sym (length-take-le (s k).args.held.shown (s k).args.t3 (s k).requires.shown-fits)
+slice-aggregate-follow : tie.Need-slice_bounds-follow-end
+slice-aggregate-follow c = let k = c in sym (length-take-le (s k.before).args.held.shown (s k.before).args.old_shown (s k.before).requires.shown-fits)
 
-slice-aggregate-follow-2 : tie.Need-slice-aggregate-follow-2
-slice-aggregate-follow-2 c = let k = c.before.before in sym (length-take-le (s k).args.held.size (s k).args.t4 (s k).requires.text-fits)
+slice-aggregate-follow-2 : tie.Need-slice_bounds-follow-end-in-Line
+slice-aggregate-follow-2 c = let k = c in sym (length-take-le (s k.before.before).args.held.size (s k.before.before).args.old (s k.before.before).requires.text-fits)
 
-slice-aggregate-follow-3 : tie.Need-slice-aggregate-follow-3
-slice-aggregate-follow-3 c = let k = c.before.before.before in sym (length-take-le (m k) (s k).args.t5 (fits k).0)
+slice-aggregate-follow-3 : tie.Need-slice_bounds-follow-end-in-Line-2
+slice-aggregate-follow-3 c = let k = c in sym (length-take-le (m k.before.before.before) (s k.before.before.before).args.shown (fits k.before.before.before).0)
 
-slice-aggregate-follow-4 : tie.Need-slice-aggregate-follow-4
-slice-aggregate-follow-4 c = let k = c.before.before.before.before in sym (length-take-le (n k) (s k).args.t6 (fits k).1.0)
+slice-aggregate-follow-4 : tie.Need-slice_bounds-follow-end-in-Line-3
+slice-aggregate-follow-4 c = let k = c in sym (length-take-le (n k.before.before.before.before) (s k.before.before.before.before).args.line (fits k.before.before.before.before).1.0)
 
-array-share-prefix-shown : tie.Need-array-share-prefix-shown
+array-share-prefix-shown : tie.Need-slice_bounds-shown-end
 array-share-prefix-shown c = (fits c.before.before).0
 
-array-share-prefix-line : tie.Need-array-share-prefix-line
+array-share-prefix-line : tie.Need-slice_bounds-line-end
 array-share-prefix-line c = (fits c.before.before.before).1.0
 
-follow-requires : tie.Need-follow-requires
+follow-requires : tie.Need-follow-next-requires
 follow-requires c κs =
-    let k = c.before.before.before.before in
-    let p = (s k).requires in
-    record { strict = (fits k).1.1; strict_old = p.strict_old; numbered = p.numbered; numbered-old = p.numbered-old }
+    let k = c in
+    let p = (s k.before.before.before.before).requires in
+    record { strict = (fits k.before.before.before.before).1.1; strict_old = p.strict_old; numbered = p.numbered; numbered-old = p.numbered-old }
 
 -- what is told of the line
-module _ (c : tie.After-follow) where
-  abbrev k : tie.After-known-told
+module _ (c : tie.After-follow-next) where
+  abbrev k : tie.In-Line
   k = c.before.before.before.before.before
 
-  next_told : (end : Legality) (raw : Text) (later : Option Kept → Outcome (List Kept)) → StrictTold raw (s k).args.strict (s k).args.t5 (s k).args.t6
-      → HeldBytes (s k).args.unit (s k).args.held (s k).args.t3 (s k).args.t4 end (taking (s k).args.number raw later)
-      → {r : Next} → c.follow.result ≡ r
-      → NextTold (s k).args.unit (take (m k) (s k).args.t5) (take (n k) (s k).args.t6) end later (s k).args.number r
+  next_told : (end : Legality) (raw : Text) (later : Option Kept → Outcome (List Kept)) → StrictTold raw (s k).args.strict (s k).args.shown (s k).args.line
+      → HeldBytes (s k).args.unit (s k).args.held (s k).args.old_shown (s k).args.old end (taking (s k).args.number raw later)
+      → {r : Next} → c.follow-next.result ≡ r
+      → NextTold (s k).args.unit (take (m k) (s k).args.shown) (take (n k) (s k).args.line) end later (s k).args.number r
   next_told end raw later told held e =
       let a = (s k).args in
-      let t : LineTold raw (m k) (n k) k.before.strict.given.0.1.1.0 a.t5 a.t6 =
-      subst (λ (x : Strict). StrictTold raw x a.t5 a.t6) k.before.strict.given.1 told in
+      let t : LineTold raw (m k) (n k) k.in-Line.site a.shown a.line =
+      subst (λ (x : Strict). StrictTold raw x a.shown a.line) k.in-Line.is told in
       let holds = holds_same a.unit a.held _ _ end (taking a.number raw later)
-      (λ before. kept_then before (record { line = a.number; raw = raw; text = take (n k) a.t6 }) later) a.held.some held.holds
+      (λ before. kept_then before (record { line = a.number; raw = raw; text = take (n k) a.line }) later) a.held.some held.holds
       (λ before. ap (λ (o : Outcome Text). o then λ t. kept_then before (record { line = a.number; raw = raw; text = t }) later) (t.is_line a.number)) in
-      subst (NextTold a.unit (take (m k) a.t5) (take (n k) a.t6) end later a.number) e
-      (c.follow.ensures end raw later (sym t.is_shown) holds)
+      subst (NextTold a.unit (take (m k) a.shown) (take (n k) a.line) end later a.number) e
+      (c.follow-next.ensures end raw later (sym t.is_shown) holds)
 
-returns-3 : tie.Need-returns-3
-returns-3 c end raw later told held = next_told c.before.before end raw later told held c.enum-told3.given.1
+returns-3 : tie.Need-returns-in-Misnamed
+returns-3 c end raw later told held = next_told c.before end raw later told held c.in-Misnamed.is
 
-returns-4 : tie.Need-returns-4
+returns-4 : tie.Need-returns-in-Held
 returns-4 c end raw later told held =
-    let f = c.before.before.before in
-    let g = k f in
-    held_bytes (s g).args.t5 (s g).args.t6 (m g) (n g) (fits g).0 (fits g).1.0
-    (next_told f end raw later told held c.before.next.given.1)
+    let f = c in
+    let g = k f.before in
+    held_bytes (s g).args.shown (s g).args.line (m g) (n g) (fits g).0 (fits g).1.0
+    (next_told f.before end raw later told held c.in-Held.is)
 
-pub take-up-spec : {M : Type 1} → statement M
-take-up-spec =
+pub take_up_spec : {M : Type 1} → statement M
+take_up_spec =
     tie.close
     (tie.spec
     (λ c. search rules)
@@ -111,7 +111,7 @@ take-up-spec =
     (λ c. search rules)
     (λ c. (s c).requires.shown-fits)
     slice-aggregate-follow
-    (λ c. (s c.before).pre.text-fits)
+    (λ c. (s c.before).requires.text-fits)
     slice-aggregate-follow-2
     array-share-prefix-shown
     slice-aggregate-follow-3

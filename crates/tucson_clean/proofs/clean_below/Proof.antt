@@ -17,35 +17,35 @@ use Rattle.tucson_clean.proofs.Below.{below_legal, below_refused}
 use Rattle.tucson_clean.proofs.clean_below.Statement.{statement}
 use Rattle.tucson_clean.proofs.clean_below.Tie as tie
 
-module _ (c : tie.After-check) where
+module _ (c : tie.After-check-checked) where
   abbrev s : tie.Start
   s = c.before.before.before.before.before.before
 
-  says : {r : Legality} → c.check.result ≡ r → legality (kept_lines s.args.header 1 none (lines_of (text_of s.args.text.now)) then checked_lines s.args.unit) ≡ r
-  says e = ap (λ (x : Text). legality (kept_lines s.args.header 1 none (lines_of x) then checked_lines s.args.unit)) (sym s.pre.body_is) ∙ sym c.check.ensures ∙ e
+  says : {r : Legality} → c.check-checked.result ≡ r → legality (kept_lines s.args.header 1 none (lines_of (text_of s.args.text.now)) then checked_lines s.args.unit) ≡ r
+  says e = ap (λ (x : Text). legality (kept_lines s.args.header 1 none (lines_of x) then checked_lines s.args.unit)) (sym s.requires.body_is) ∙ sym c.check-checked.ensures ∙ e
 
   abbrev room : Outcome Cleaned → Outcome Cleaned
   room o = o then if_room (length s.args.out.now) (length s.args.lines.now) (length s.args.notes.now)
 
-returns : tie.Need-returns
+returns : tie.Need-returns-in-Refused
 returns c =
-    let k = c.before.before.before in
-    let a = (s k).args in
-    let g = c.before.checked.given in
-    ends_refused _ g.0.0 g.0.1.0 a.out.now a.lines.now a.notes.now
-    (ap (room k) (below_refused a.text.now a.unit a.header g.0.0 g.0.1.0 (says k g.1)))
+    let k = c in
+    let a = (s k.before).args in
+    let g = c.in-Refused in
+    ends_refused _ g.code g.place a.out.now a.lines.now a.notes.now
+    (ap (room k.before) (below_refused a.text.now a.unit a.header g.code g.place (says k.before g.is)))
 
-returns-2 : tie.Need-returns-2
+returns-2 : tie.Need-returns-in-Legal
 returns-2 c =
-    let f = c.before.before.before.before.before.before in
-    let t = f.before.before.before.before in
-    let k = t.before.before in
-    let a = (s k).args in
-    let m = below_legal a.text.now a.unit a.header (says k t.enum_told.given.1) in
-    ends_same (sym (ap (room k) m.made)) (f.fill.ensures m.lines m.kept)
+    let f = c in
+    let t = f in
+    let k = t in
+    let a = (s k.before.before.before.before.before.before.before.before.before.before.before).args in
+    let m = below_legal a.text.now a.unit a.header (says k.before.before.before.before.before.before.before.before.before.before.before t.in-Legal.is) in
+    ends_same (sym (ap (room k.before.before.before.before.before.before.before.before.before.before.before) m.made)) (f.fill.ensures m.lines m.kept)
 
-pub clean-below-spec : {M : Type 1} → statement M
-clean-below-spec =
+pub clean_below_spec : {M : Type 1} → statement M
+clean_below_spec =
     tie.close
     (tie.spec
     (λ c. search rules)

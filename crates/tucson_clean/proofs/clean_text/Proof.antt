@@ -19,45 +19,45 @@ use Rattle.tucson_clean.proofs.Room.{ends_refused, ends_same}
 use Rattle.tucson_clean.proofs.clean_text.Statement.{statement}
 use Rattle.tucson_clean.proofs.clean_text.Tie as tie
 
-module _ (c : tie.After-stop) where
+module _ (c : tie.After-stop-stop) where
   abbrev s : tie.Start
   s = c.before.before.before.before.before.before
 
-  stands : BodyAt s.args.text.now c.before.start.result c.stop.result
-  stands = body_at s.args.text.now c.before.start.result c.stop.result c.before.start.ensures
-      (c.stop.ensures ∙ ap (λ (u : Text). c.before.start.result + index_of substitute u) (slice_all c.before.start.result s.args.text.now)) s.pre
+  stands : BodyAt s.args.text.now c.start-from.result c.stop-stop.result
+  stands = body_at s.args.text.now c.start-from.result c.stop-stop.result c.start-from.ensures
+      (c.stop-stop.ensures ∙ ap (λ (u : Text). c.start-from.result + index_of substitute u) (slice_all c.start-from.result s.args.text.now)) s.requires
 
   abbrev room : Outcome ℕ → Outcome Cleaned
   room o = (o then cleaned_below s.args.text.now s.args.unit)
       then if_room (length s.args.out.now) (length s.args.lines.now) (length s.args.notes.now)
 
-part-header-end : tie.Need-slice-bounds-header-end
+part-header-end : tie.Need-slice_bounds-header-end
 part-header-end c = (stands c).within
 
-module _ (c : tie.After-header) where
-  abbrev f : tie.After-stop
+module _ (c : tie.After-header-found) where
+  abbrev f : tie.After-stop-stop
   f = c.before.before
 
-  says : {r : HeaderFound} → c.header.result ≡ r → header_of (s f).args.header (lines_of (text_of (s f).args.text.now)) ≡ header_answer r
-  says e = ap (λ (x : Text). header_of (s f).args.header (lines_of x)) (sym (stands f).body_is) ∙ sym c.header.ensures ∙ ap header_answer e
+  says : {r : HeaderFound} → c.header-found.result ≡ r → header_of (s f).args.header (lines_of (text_of (s f).args.text.now)) ≡ header_answer r
+  says e = ap (λ (x : Text). header_of (s f).args.header (lines_of x)) (sym (stands f).body_is) ∙ sym c.header-found.ensures ∙ ap header_answer e
 
-returns : tie.Need-returns
+returns : tie.Need-returns-in-Refused
 unfolding header_answer
 returns c =
-    let k = c.before.before.before in
-    let a = (s (f k)).args in
-    ends_refused _ 26 c.before.found.given.0.0 a.out.now a.lines.now a.notes.now (ap (room (f k)) (says k c.before.found.given.1))
+    let k = c in
+    let a = (s (f k.before)).args in
+    ends_refused _ 26 c.in-Refused.place a.out.now a.lines.now a.notes.now (ap (room (f k.before)) (says k.before c.in-Refused.is))
 
-returns-2 : tie.Need-returns-2
+returns-2 : tie.Need-returns-in-Ends
 unfolding header_answer
 returns-2 c =
-    let b = c.before.before.before.before.before.before in
-    let x = b.before.before.before.before.before in
-    let k = x.before.before in
-    ends_same (sym (ap (room (f k)) (says k x.found2.given.1))) b.clean-below.ensures
+    let b = c in
+    let x = b in
+    let k = x in
+    ends_same (sym (ap (room (f k.before.before.before.before.before.before.before.before.before.before.before)) (says k.before.before.before.before.before.before.before.before.before.before.before x.in-Ends.is))) b.clean_below.ensures
 
-pub clean-text-spec : {M : Type 1} → statement M
-clean-text-spec =
+pub clean_text_spec : {M : Type 1} → statement M
+clean_text_spec =
     tie.close
     (tie.spec
     (λ c κs. search rules)
@@ -68,7 +68,7 @@ clean-text-spec =
     (λ c κs. search rules)
     (λ c. search rules)
     (λ c. search rules)
-    (λ c κs. let b = c.before.before.before.before.before.before.before.before in stands b)
+    (λ c κs. let b = c in stands b.before.before.before.before.before.before)
     returns
     (λ c. search rules)
     (λ c. search rules)

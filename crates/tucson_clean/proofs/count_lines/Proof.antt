@@ -8,15 +8,15 @@ use Rattle.tucson_clean.proofs.Tails.{tail_is}
 use Rattle.tucson_clean.proofs.count_lines.Statement.{statement}
 use Rattle.tucson_clean.proofs.count_lines.Tie as tie
 
-returns : tie.Need-returns
+returns : tie.Need-returns-then-is_ended
 returns c =
-    let e = c.before.before in
-    tail_is e.before.before.args.body.now e.ends.result true (sym c.if1.true ∙ c.before.is-ended.ensures) (omega (arith, e.ends.ensures.0))
+    let e = c in
+    tail_is e.args.body.now e.ends-count.result true (sym c.if-is_ended.true ∙ c.is_ended.ensures) (omega (arith, e.ends-count.ensures.0))
 
-returns-2 : tie.Need-returns-2
+returns-2 : tie.Need-returns
 returns-2 c =
-    let e = c.before.before in
-    tail_is e.before.before.args.body.now (e.ends.result + 1) false (sym c.if1.false ∙ c.before.is-ended.ensures) (omega (arith, e.ends.ensures.0))
+    let e = c in
+    tail_is e.args.body.now (e.ends-count.result + 1) false (sym c.if-is_ended.false ∙ c.is_ended.ensures) (omega (arith, e.ends-count.ensures.0))
 
-pub count-lines-spec : {M : Type 1} → statement M
-count-lines-spec = tie.close (tie.spec (λ c κs. search rules) (λ c κs. search rules) returns (λ c. let e = c.before.before in omega (arith, e.ends.ensures.1, e.before.before.well-formed)) returns-2)
+pub count_lines_spec : {M : Type 1} → statement M
+count_lines_spec = tie.close (tie.spec (λ c κs. search rules) (λ c κs. search rules) returns (λ c. let e = c in omega (arith, e.ends-count.ensures.1, e.well_formed)) returns-2)

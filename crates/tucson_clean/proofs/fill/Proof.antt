@@ -8,15 +8,15 @@ use Rattle.tucson_clean.proofs.Room.{ends-ample}
 use Rattle.tucson_clean.proofs.fill.Statement.{statement}
 use Rattle.tucson_clean.proofs.fill.Tie as tie
 
-returns : tie.Need-returns
+returns : tie.Need-returns-then-is_ample
 returns c ks e =
-    let p = c.before.before.before.before.before.before.before in
-    let i = p.before.before.before.before in
-    let k = i.before in
-    let n = k.before in
-    let s = n.before.before.before.before.before.before in
-    ends-ample n.count-lines.result.count (n.count-lines.ensures.count_is ∙ ap (λ (x : Text). length (lines_of x)) s.requires.body_is)
-    (k.is-ample.ensures i.if1.true) (p.put_all_lem.ensures ks e)
+    let p = c in
+    let i = p in
+    let k = i in
+    let n = k in
+    let s = n in
+    ends-ample n.count_lines-tail.result.count (n.count_lines-tail.ensures.count_is ∙ ap (λ (x : Text). length (lines_of x)) s.requires.body_is)
+    (k.is_ample.ensures i.if-is_ample.true) (p.put_all-put.ensures ks e)
 
 pub fill_spec : {M : Type 1} → statement M
 fill_spec =

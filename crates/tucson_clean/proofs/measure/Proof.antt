@@ -5,7 +5,7 @@ use Rattle.tucson_clean.proofs.measure.Statement.{statement}
 use Rattle.tucson_clean.proofs.measure.Tie as tie
 
 returns : tie.Need-returns
-returns c ks e = measured (c.before.before.before.put_all_lem.ensures ks e)
+returns c ks e = measured (c.put_all.ensures ks e)
 
-pub measure-spec : {M : Type 1} → statement M
-measure-spec = tie.close (tie.spec (λ c. search rules) (λ c. search rules) (λ c. search rules) (λ c κs. search rules) returns)
+pub measure_spec : {M : Type 1} → statement M
+measure_spec = tie.close (tie.spec (λ c. search rules) (λ c. search rules) (λ c. search rules) (λ c κs. search rules) returns)

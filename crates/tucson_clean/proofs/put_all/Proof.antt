@@ -6,16 +6,16 @@ use Rattle.tucson_clean.proofs.put_all.Tie as tie
 
 returns : tie.Need-returns
 returns c =
-    let z = c.before.before in
-    let b = z.before.before.before in
-    let w = b.before.before.before.before.before.before.before in
-    let p = w.before.before.before.before.before.before.before in
-    let m = p.before.before in
-    let s = m.before.before.before.before.before in
-    all_put s.requires.body m.is-marked.ensures p.put-note.ensures w.walk.ensures s.requires.counted b.both.ensures z.put-note2.ensures
+    let z = c in
+    let b = z in
+    let w = b in
+    let p = w in
+    let m = p in
+    let s = m in
+    all_put s.requires.body m.is_marked-marked.ensures p.put_note-at.ensures w.walk-walked.ensures s.requires.counted b.both-cut.ensures z.put_note-cells.ensures
 
-pub put-all-spec : {M : Type 1} → statement M
-put-all-spec =
+pub put_all_spec : {M : Type 1} → statement M
+put_all_spec =
     tie.close
     (tie.spec
     (λ c κs. search rules)

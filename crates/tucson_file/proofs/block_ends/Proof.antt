@@ -15,51 +15,51 @@ record Counting (text : Text) (from to count i : ℕ) : Type 0 where
   within : i ≤ to
   told : EndsTold text from i count
 
-abbrev invariant-loop : tie.invariant-loop
+abbrev invariant-loop : tie.invariant-loop-i
 invariant-loop text from to count₀ i₀ count i = Counting text from to count i
 
-abbrev decreases-loop : tie.decreases-loop
+abbrev decreases-loop : tie.decreases-loop-i
 decreases-loop text from to count₀ i₀ count i = to - i
 
-loop-holds : tie.Need-loop-init invariant-loop decreases-loop
-loop-holds c = record { after = omega arith; within = c.before.requires.ordered; told = record { few = omega arith; are = omega arith } }
+loop-holds : tie.Need-loop-i-init invariant-loop decreases-loop
+loop-holds c = record { after = omega arith; within = c.requires.ordered; told = record { few = omega arith; are = omega arith } }
 
-module _ (c : tie.After-is-end invariant-loop decreases-loop) where
+module _ (c : tie.After-is_end-count invariant-loop decreases-loop) where
   abbrev s : tie.Start invariant-loop decreases-loop
   s = c.before.before.before.before.before
 
-  abbrev l : tie.At-loop invariant-loop decreases-loop
+  abbrev l : tie.At-loop-i invariant-loop decreases-loop
   l = c.before.before.before
 
   abbrev text : Text
   text = s.args.text.now
 
-  one : c.is-end.result ≤ 1
-  one = omega (arith, c.is-end.ensures, end_few (get_or text l.loop.i 0))
+  one : c.is_end-count.result ≤ 1
+  one = omega (arith, c.is_end-count.ensures, end_few (get_or text l.loop-i.i 0))
 
-add-count : tie.Need-overflow-add-count invariant-loop decreases-loop
-add-count c = omega (arith, one c, (l c).loop.invariant.told.few, (l c).loop.invariant.after, (s c).requires.short)
+add-count : tie.Need-overflow_add-count invariant-loop decreases-loop
+add-count c = omega (arith, one c, (l c).loop-i.invariant.told.few, (l c).loop-i.invariant.after, (s c).requires.short)
 
-loop-again : tie.Need-loop-preserved invariant-loop decreases-loop
+loop-again : tie.Need-loop-i-preserved invariant-loop decreases-loop
 loop-again c =
-    let i = (l c).loop.invariant in
+    let i = (l c).loop-i.invariant in
     record {
       after = omega (arith, i.after);
       within = omega arith;
       told = record {
         few = omega (arith, i.told.few, i.after, one c);
-        are = omega (arith, i.told.are, ends_next (text c) (l c).loop.i (omega (arith, (s c).requires.within)), c.is-end.ensures);
+        are = omega (arith, i.told.are, ends_next (text c) (l c).loop-i.i (omega (arith, (s c).requires.within)), c.is_end-count.ensures);
       };
     }
 
 returns : tie.Need-returns invariant-loop decreases-loop
 returns c =
-    let l = c.before.loop in
-    let s = c.before.before.before in
+    let l = c.loop-i in
+    let s = c in
     subst (λ (n : ℕ). EndsTold s.args.text.now s.args.from n l.count) (let e : l.i ≡ s.args.to = omega (arith, l.invariant.within) in e) l.invariant.told
 
-pub block-ends-spec : {M : Type 1} → statement M
-block-ends-spec =
+pub block_ends_spec : {M : Type 1} → statement M
+block_ends_spec =
     tie.close
     (tie.spec
     invariant-loop

@@ -1,6 +1,5 @@
 -- 16-bit characters first, then the first byte at fault behind a mark, if there is a special byte.
 use borrow.Author.Rules.{rules}
-use borrow.Author.Tests.{not-true}
 use mathlib.Core.Bool.{Bool, cond}
 use mathlib.Core.Option.{some}
 use mathlib.Core.Path.{◌≡◌, sym, ◌∙◌, ap}
@@ -12,33 +11,33 @@ use Rattle.tucson_file.proofs.Faults.{plain-fault}
 use Rattle.tucson_file.proofs.fault.Statement.{statement}
 use Rattle.tucson_file.proofs.fault.Tie as tie
 
-returns : tie.Need-returns
+returns : tie.Need-returns-then-is_wide
 unfolding found text_fault
 returns c =
-    let s = c.before.before.before in
-    ap (λ (b : Bool). found (cond b (some 1) (fault_line 1 (unmarked s.args.text.now)))) (sym (sym c.before.is_IsWide.ensures ∙ c.if1.true))
+    let s = c in
+    ap (λ (b : Bool). found (cond b (some 1) (fault_line 1 (unmarked s.args.text.now)))) (sym (sym c.is_wide.ensures ∙ c.if-is_wide.true))
 
-fault-is : (x : tie.After-start) → found (text_fault x.before.before.before.before.args.text.now)
-    ≡ found (fault_line 1 (drop x.start.result x.before.before.before.before.args.text.now))
+fault-is : (x : tie.After-start-from) → found (text_fault x.args.text.now)
+    ≡ found (fault_line 1 (drop x.start-from.result x.args.text.now))
 unfolding text_fault
 fault-is x =
-    let e = x.before in
-    let t = e.before.before.before.args.text.now in
-    ap (λ (b : Bool). found (cond b (some 1) (fault_line 1 (unmarked t)))) (sym e.before.is_IsWide.ensures ∙ e.if1.false)
-    ∙ ap (λ (u : Text). found (fault_line 1 u)) x.start.ensures.text_is
+    let e = x in
+    let t = e.args.text.now in
+    ap (λ (b : Bool). found (cond b (some 1) (fault_line 1 (unmarked t)))) (sym e.is_wide.ensures ∙ e.if-is_wide.false)
+    ∙ ap (λ (u : Text). found (fault_line 1 u)) x.start-from.ensures.text_is
 
-returns-2 : tie.Need-returns-2
+returns-2 : tie.Need-returns-then-not-any_special
 unfolding found
 returns-2 c =
-    let x = c.before.before in
-    let t = x.before.before.before.before.args.text.now in
-    sym (fault-is x
-    ∙ ap found (plain-fault 1 (drop x.start.result t) (sym c.before.any-special.ensures ∙ not-true _ c.if2.true)))
+    let x = c in
+    let t = x.args.text.now in
+    sym (fault-is x.before.before
+    ∙ ap found (plain-fault 1 (drop x.start-from.result t) (sym c.any_special.ensures ∙ c.if-not-any_special.true)))
 
-returns-3 : tie.Need-returns-3
-returns-3 c = let x = c.before.before.before in c.fault-line.ensures ∙ sym (fault-is x)
+returns-3 : tie.Need-returns
+returns-3 c = let x = c in c.fault_line.ensures ∙ sym (fault-is x.before.before.before)
 
-pub fault-spec : {M : Type 1} → statement M
-fault-spec =
-    tie.close (tie.spec (λ c κs. search rules) returns (λ c κs. search rules) (λ c κs. c.start.ensures.within) returns-2
-    (λ c κs. record { within = c.before.before.start.ensures.within }) returns-3)
+pub fault_spec : {M : Type 1} → statement M
+fault_spec =
+    tie.close (tie.spec (λ c κs. search rules) returns (λ c κs. search rules) (λ c κs. c.start-from.ensures.within) returns-2
+    (λ c κs. record { within = c.start-from.ensures.within }) returns-3)

@@ -6,11 +6,11 @@ use Rattle.tucson_file.proofs.LineEnds.{last_none, last_byte}
 use Rattle.tucson_file.proofs.is_ended.Statement.{statement}
 use Rattle.tucson_file.proofs.is_ended.Tie as tie
 
-returns : tie.Need-returns
-returns c = sym (last_none _ c.if1.true)
+returns : tie.Need-returns-then-text-eq0
+returns c = sym (last_none _ c.if-text-eq0.true)
 
-returns-2 : tie.Need-returns-2
+returns-2 : tie.Need-returns
 returns-2 c = last_byte _ (λ e. omega (arith, e))
 
-pub is-ended-spec : {M : Type 1} → statement M
-is-ended-spec = tie.close (tie.spec returns (λ c. search rules) (λ c. search rules) returns-2)
+pub is_ended_spec : {M : Type 1} → statement M
+is_ended_spec = tie.close (tie.spec returns (λ c. search rules) (λ c. search rules) returns-2)

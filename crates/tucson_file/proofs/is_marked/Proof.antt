@@ -11,5 +11,5 @@ returns : tie.Need-returns
 unfolding is_marked
 returns c = c.begins.ensures ∙ ap (begins_with byte_order_mark) (take-length _)
 
-pub is-marked-spec : {M : Type 1} → statement M
-is-marked-spec = tie.close (tie.spec (λ c. search rules) (λ c κs. search rules) returns)
+pub is_marked_spec : {M : Type 1} → statement M
+is_marked_spec = tie.close (tie.spec (λ c κs. search rules) returns)

@@ -9,35 +9,35 @@ use Rattle.tucson_file.proofs.Faults.{at_is}
 use Rattle.tucson_file.proofs.is_odd.Statement.{statement}
 use Rattle.tucson_file.proofs.is_odd.Tie as tie
 
-returns : tie.Need-returns
+returns : tie.Need-returns-then-byte-eq0
 returns c =
-    let s = c.before.before.before in
+    let s = c in
     let b = get_or s.args.text.now s.args.at 0 in
     sym (at_is s.args.text.now s.args.at s.requires ∙ rw (eq-eqb b 0 (omega arith)))
 
-returns-2 : tie.Need-returns-2
+returns-2 : tie.Need-returns-then-begins
 returns-2 c =
-    let s = c.before.before.before.before.before.before in
+    let s = c in
     let b = get_or s.args.text.now s.args.at 0 in
-    sym (at_is s.args.text.now s.args.at s.requires ∙ rw (ne_eqb b 0 (omega arith), sym c.before.begins.ensures ∙ c.if2.true))
+    sym (at_is s.args.text.now s.args.at s.requires ∙ rw (ne_eqb b 0 (omega arith), sym c.begins.ensures ∙ c.if-begins.true))
 
-returns-3 : tie.Need-returns-3
+returns-3 : tie.Need-returns-then-byte-eq13
 returns-3 c =
-    let e = c.before.before.before in
-    let s = e.before.before.before.before.before.before in
+    let e = c in
+    let s = e in
     let b = get_or s.args.text.now s.args.at 0 in
     sym (at_is s.args.text.now s.args.at s.requires
-    ∙ rw (ne_eqb b 0 (omega arith), sym e.before.begins.ensures ∙ e.if2.false, eq-eqb b 13 (omega arith)) (ap not (sym c.begins2.ensures)))
+    ∙ rw (ne_eqb b 0 (omega arith), sym e.begins.ensures ∙ e.if-begins.false, eq-eqb b 13 (omega arith)) (ap not (sym c.begins-then-byte-eq13.ensures)))
 
-returns-4 : tie.Need-returns-4
+returns-4 : tie.Need-returns
 returns-4 c =
-    let e = c.before in
-    let s = e.before.before.before.before.before.before in
+    let e = c in
+    let s = e in
     let b = get_or s.args.text.now s.args.at 0 in
     sym (at_is s.args.text.now s.args.at s.requires
-    ∙ rw (ne_eqb b 0 (omega arith), sym e.before.begins.ensures ∙ e.if2.false, ne_eqb b 13 (omega arith)))
+    ∙ rw (ne_eqb b 0 (omega arith), sym e.begins.ensures ∙ e.if-begins.false, ne_eqb b 13 (omega arith)))
 
-pub is-odd-spec : {M : Type 1} → statement M
-is-odd-spec =
-    tie.close (tie.spec (λ c. search rules) returns (λ c. search rules) (λ c κs. search rules) returns-2 (λ c. search rules)
-    (λ c. search rules) (λ c κs. search rules) returns-3 returns-4)
+pub is_odd_spec : {M : Type 1} → statement M
+is_odd_spec =
+    tie.close (tie.spec (λ c. search rules) returns (λ c κs. search rules) returns-2 (λ c. search rules) (λ c κs. search rules) returns-3
+    returns-4)

@@ -6,7 +6,7 @@ use Rattle.tucson_file.proofs.is_special.Statement.{statement}
 use Rattle.tucson_file.proofs.is_special.Tie as tie
 
 returns : tie.Need-returns
-returns c = c.either3.ensures ∙ ap₂ (λ (a b : Bool). a || b) c.before.before.either.ensures c.before.either2.ensures
+returns c = c.either-2.ensures ∙ ap₂ (λ (a b : Bool). a || b) c.either-low.ensures c.either.ensures
 
-pub is-special-spec : {M : Type 1} → statement M
-is-special-spec = tie.close (tie.spec (λ c κs. search rules) (λ c κs. search rules) (λ c κs. search rules) returns)
+pub is_special_spec : {M : Type 1} → statement M
+is_special_spec = tie.close (tie.spec (λ c κs. search rules) (λ c κs. search rules) (λ c κs. search rules) returns)

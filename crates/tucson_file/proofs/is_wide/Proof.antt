@@ -9,20 +9,20 @@ use Rattle.spec_tucson.specs.FileText.{is_wide}
 use Rattle.tucson_file.proofs.is_wide.Statement.{statement}
 use Rattle.tucson_file.proofs.is_wide.Tie as tie
 
-returns : tie.Need-returns
+returns : tie.Need-returns-then-begins
 unfolding is_wide
 returns c =
-    let t = c.before.before.before.before.args.text.now in
-    let e = sym (c.before.begins.ensures ∙ ap (begins_with (255 ∷ 254 ∷ [])) (take-length t)) ∙ c.if1.true in
+    let t = c.args.text.now in
+    let e = sym (c.begins.ensures ∙ ap (begins_with (255 ∷ 254 ∷ [])) (take-length t)) ∙ c.if-begins.true in
     rw e
 
-returns-2 : tie.Need-returns-2
+returns-2 : tie.Need-returns
 unfolding is_wide
 returns-2 c =
-    let f = c.before.before in
-    let t = f.before.before.before.before.args.text.now in
-    let e = sym (f.before.begins.ensures ∙ ap (begins_with (255 ∷ 254 ∷ [])) (take-length t)) ∙ f.if1.false in
-    rw e (c.begins2.ensures ∙ ap (begins_with (254 ∷ 255 ∷ [])) (take-length t))
+    let f = c in
+    let t = f.args.text.now in
+    let e = sym (f.begins.ensures ∙ ap (begins_with (255 ∷ 254 ∷ [])) (take-length t)) ∙ f.if-begins.false in
+    rw e (c.begins-2.ensures ∙ ap (begins_with (254 ∷ 255 ∷ [])) (take-length t))
 
-pub is-wide-spec : {M : Type 1} → statement M
-is-wide-spec = tie.close (tie.spec (λ c. search rules) (λ c κs. search rules) returns (λ c. search rules) (λ c κs. search rules) returns-2)
+pub is_wide_spec : {M : Type 1} → statement M
+is_wide_spec = tie.close (tie.spec (λ c κs. search rules) returns (λ c κs. search rules) returns-2)

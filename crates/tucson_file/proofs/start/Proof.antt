@@ -6,11 +6,11 @@ use Rattle.tucson_file.proofs.Faults.{marked_long, unmarked-marked, unmarked_oth
 use Rattle.tucson_file.proofs.start.Statement.{statement}
 use Rattle.tucson_file.proofs.start.Tie as tie
 
-returns : tie.Need-returns
-returns c = let e = sym c.before.is-marked.ensures ∙ c.if1.true in record { within = marked_long _ e; text_is = unmarked-marked _ e }
+returns : tie.Need-returns-then-is_marked
+returns c = let e = sym c.is_marked.ensures ∙ c.if-is_marked.true in record { within = marked_long _ e; text_is = unmarked-marked _ e }
 
-returns-2 : tie.Need-returns-2
-returns-2 c = let e = sym c.before.is-marked.ensures ∙ c.if1.false in record { within = omega arith; text_is = unmarked_other _ e }
+returns-2 : tie.Need-returns
+returns-2 c = let e = sym c.is_marked.ensures ∙ c.if-is_marked.false in record { within = omega arith; text_is = unmarked_other _ e }
 
 pub start_spec : {M : Type 1} → statement M
 start_spec = tie.close (tie.spec (λ c κs. search rules) returns returns-2)

@@ -1,6 +1,5 @@
 -- Without a special byte the text goes on to the end.
 use borrow.Author.Rules.{rules}
-use borrow.Author.Tests.{not-true}
 use mathlib.Core.Path.{sym, ◌∙◌, ap}
 use native.Mathlib.Omega.{arith}
 use lib.ListN.{drop, length-drop}
@@ -10,9 +9,9 @@ use Rattle.tucson_file.proofs.Faults.{rest_is, plain-index}
 use Rattle.tucson_file.proofs.stop.Statement.{statement}
 use Rattle.tucson_file.proofs.stop.Tie as tie
 
-returns : tie.Need-returns
+returns : tie.Need-returns-then-not-any_special
 returns c =
-    let s = c.before.before.before in
+    let s = c in
     let t = s.args.text.now in
     let i = s.args.from in
     omega (
@@ -20,8 +19,8 @@ returns c =
       s.requires,
       length-drop i t,
       ap (index_of substitute) (rest_is t i),
-      plain-index (drop i t) (sym c.before.any-special.ensures ∙ not-true _ c.if1.true),
+      plain-index (drop i t) (sym c.any_special.ensures ∙ c.if-not-any_special.true),
     )
 
-pub stop-spec : {M : Type 1} → statement M
-stop-spec = tie.close (tie.spec (λ c κs. search rules) returns (λ c κs. search rules) (λ c. search rules))
+pub stop_spec : {M : Type 1} → statement M
+stop_spec = tie.close (tie.spec (λ c κs. search rules) returns (λ c κs. search rules) (λ c. search rules))

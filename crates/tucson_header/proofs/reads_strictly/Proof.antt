@@ -12,31 +12,31 @@ use Rattle.tucson_header.proofs.reads_strictly.Statement.{statement}
 use Rattle.tucson_header.proofs.reads_strictly.Tie as tie
 
 -- what is told of the line
-module _ (c : tie.After-strict-line) where
+module _ (c : tie.After-strict_line-strict) where
   abbrev raw : Text
-  raw = slice c.before.before.before.before.args.from (c.before.before.before.before.args.end + 1) c.before.before.before.before.args.body.now
+  raw = slice c.args.from (c.args.end + 1) c.args.body.now
 
   abbrev shown : Text
-  shown = c.strict-line.new.1.1.1.0
+  shown = c.strict_line-strict.new.bytes
 
   abbrev line : Text
-  line = c.strict-line.new.1.1.1.1.0
+  line = c.strict_line-strict.new.line
 
-  told : {s : Strict} → c.strict-line.result ≡ s → StrictTold raw s shown line
-  told e = subst (λ (s : Strict). StrictTold raw s shown line) e c.strict-line.ensures
+  told : {s : Strict} → c.strict_line-strict.result ≡ s → StrictTold raw s shown line
+  told e = subst (λ (s : Strict). StrictTold raw s shown line) e c.strict_line-strict.ensures
 
-returns : tie.Need-returns
+returns : tie.Need-returns-in-Malformed
 unfolding reads_strictly
-returns c = sym (ap (λ (o : Outcome Text). is_answer o) (told c.before.before c.enum_told.given.1 0))
+returns c = sym (ap (λ (o : Outcome Text). is_answer o) (told c.before c.in-Malformed.is 0))
 
-returns-2 : tie.Need-returns-2
+returns-2 : tie.Need-returns-in-NotAscii
 unfolding reads_strictly
-returns-2 c = sym (ap (λ (o : Outcome Text). is_answer o) (told c.before.before c.enum-told2.given.1 0))
+returns-2 c = sym (ap (λ (o : Outcome Text). is_answer o) (told c.before c.in-NotAscii.is 0))
 
-returns-3 : tie.Need-returns-3
+returns-3 : tie.Need-returns-in-Line
 unfolding reads_strictly
-returns-3 c = sym (ap (λ (o : Outcome Text). is_answer o) ((told c.before.before.before c.before.strict.given.1).is_line 0))
+returns-3 c = sym (ap (λ (o : Outcome Text). is_answer o) ((told c.before c.in-Line.is).is_line 0))
 
-pub reads-strictly-spec : {M : Type 1} → statement M
-reads-strictly-spec =
+pub reads_strictly_spec : {M : Type 1} → statement M
+reads_strictly_spec =
     tie.close (tie.spec (λ c κs. search rules) (λ c. search rules) (λ c. search rules) (λ c. search rules) returns returns-2 returns-3)

@@ -6,31 +6,31 @@ use Rattle.tucson_judge.proofs.Verdict.{concluded_year, concluded_fault, conclud
 use Rattle.tucson_judge.proofs.conclude.Statement.{statement}
 use Rattle.tucson_judge.proofs.conclude.Tie as tie
 
-returns : tie.Need-returns
+returns : tie.Need-returns-then-j-ne0
 returns c unit b before =
-    let j = c.before.before.before.args.j in
-    ap (Refused 23) c.place.ensures ∙ concluded_year unit j b before c.before.if1.true
+    let j = c.args.j in
+    ap (Refused 23) c.place.ensures ∙ concluded_year unit j b before c.if-j-ne0.true
 
-returns-2 : tie.Need-returns-2
+returns-2 : tie.Need-returns-then-fault-ne0
 returns-2 c unit b before =
-    let e = c.before.before.before.before in
-    let j = e.before.before.args.j in
-    ap (Refused j.fault.code) c.place2.ensures ∙ concluded_fault unit j b before e.if1.false c.before.if2.true
+    let e = c in
+    let j = e.args.j in
+    ap (Refused j.fault.code) c.place-then-fault-ne0.ensures ∙ concluded_fault unit j b before e.if-j-ne0.false c.if-fault-ne0.true
 
-returns-3 : tie.Need-returns-3
+returns-3 : tie.Need-returns-then-reader-ne0
 returns-3 c unit b before =
-    let f = c.before.before.before.before in
-    let e = f.before.before.before in
-    let j = e.before.before.args.j in
-    ap (Refused j.reader.code) c.place3.ensures ∙ concluded_reader unit j b before e.if1.false f.if2.false c.before.if3.true
+    let f = c in
+    let e = f in
+    let j = e.args.j in
+    ap (Refused j.reader.code) c.place-then-reader-ne0.ensures ∙ concluded_reader unit j b before e.if-j-ne0.false f.if-fault-ne0.false c.if-reader-ne0.true
 
-returns-4 : tie.Need-returns-4
+returns-4 : tie.Need-returns
 returns-4 c unit b before =
-    let f = c.before.before.before in
-    let e = f.before.before.before in
-    let j = e.before.before.args.j in
-    concluded_legal unit j b before e.if1.false f.if2.false c.if3.false
+    let f = c in
+    let e = f in
+    let j = e.args.j in
+    concluded_legal unit j b before e.if-j-ne0.false f.if-fault-ne0.false c.if-reader-ne0.false
 
-pub conclude-spec : {M : Type 1} → statement M
-conclude-spec =
+pub conclude_spec : {M : Type 1} → statement M
+conclude_spec =
     tie.close (tie.spec (λ c κs. search rules) returns (λ c κs. search rules) returns-2 (λ c κs. search rules) returns-3 returns-4)

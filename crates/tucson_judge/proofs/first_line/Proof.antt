@@ -8,17 +8,17 @@ use Rattle.tucson_lines.proofs.Found.{line_kept, no_line, line_some, line-none}
 use Rattle.tucson_judge.proofs.first_line.Statement.{statement}
 use Rattle.tucson_judge.proofs.first_line.Tie as tie
 
-returns-2 : tie.Need-returns-2
+returns-2 : tie.Need-returns-then-here
 returns-2 c =
-    let a = c.before.before.args in
-    line_some a.number c.before.before.requires ∙ no_line a.line (some a.number) c.before.if1.false
-    ∙ ap (λ (b : Bool). or_else (line_found a.line) (cond b (some a.number) none)) (sym c.if2.true)
+    let a = c.args in
+    line_some a.number c.requires ∙ no_line a.line (some a.number) c.if-line-ne0.false
+    ∙ ap (λ (b : Bool). or_else (line_found a.line) (cond b (some a.number) none)) (sym c.if-here.true)
 
-returns-3 : tie.Need-returns-3
+returns-3 : tie.Need-returns
 returns-3 c =
-    let a = c.before.before.args in
-    line-none ∙ no_line a.line none c.before.if1.false
-    ∙ ap (λ (b : Bool). or_else (line_found a.line) (cond b (some a.number) none)) (sym c.if2.false)
+    let a = c.args in
+    line-none ∙ no_line a.line none c.if-line-ne0.false
+    ∙ ap (λ (b : Bool). or_else (line_found a.line) (cond b (some a.number) none)) (sym c.if-here.false)
 
-pub first-line-spec : {M : Type 1} → statement M
-first-line-spec = tie.close (tie.spec (λ c. line_kept c.before.args.line _ c.if1.true) returns-2 returns-3)
+pub first_line_spec : {M : Type 1} → statement M
+first_line_spec = tie.close (tie.spec (λ c. line_kept c.args.line _ c.if-line-ne0.true) returns-2 returns-3)

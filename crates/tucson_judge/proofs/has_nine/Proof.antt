@@ -10,10 +10,10 @@ use Rattle.tucson_judge.proofs.has_nine.Tie as tie
 
 returns : tie.Need-returns
 returns c =
-    let s = c.before.before.before in
+    let s = c in
     let f = s.ranges.last in
-    let closes : c.before.before.same.result ≡ same s.args.last hundredths = simp to_z-of_z at c.before.before.same.ensures in
-    c.either.ensures ∙ ap (λ (b : Bool). s.args.nine || b) (c.before.both.ensures ∙ ap (λ (b : Bool). s.args.goes && b) closes)
+    let closes : c.same-closes.result ≡ same s.args.last hundredths = simp to_z-of_z at c.same-closes.ensures in
+    c.either.ensures ∙ ap (λ (b : Bool). s.args.nine || b) (c.both.ensures ∙ ap (λ (b : Bool). s.args.goes && b) closes)
 
-pub has-nine-spec : {M : Type 1} → statement M
-has-nine-spec = tie.close (tie.spec (λ c κs. search rules) (λ c κs. search rules) (λ c κs. search rules) returns)
+pub has_nine_spec : {M : Type 1} → statement M
+has_nine_spec = tie.close (tie.spec (λ c κs. search rules) (λ c κs. search rules) (λ c κs. search rules) returns)

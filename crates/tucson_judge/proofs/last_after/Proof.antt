@@ -8,18 +8,18 @@ use Rattle.tucson_judge.proofs.Closing.{last_on, last-closed}
 use Rattle.tucson_judge.proofs.last_after.Statement.{statement}
 use Rattle.tucson_judge.proofs.last_after.Tie as tie
 
-returns : tie.Need-returns
+returns : tie.Need-returns-then-goes
 returns c =
-    let a = c.before.args in
-    let f = c.before.ranges.last in
-    simp to_z-of_z (sym (last_on a.unit a.last a.goes c.if1.true))
+    let a = c.args in
+    let f = c.ranges.last in
+    simp to_z-of_z (sym (last_on a.unit a.last a.goes c.if-goes.true))
 
-returns-2 : tie.Need-returns-2
+returns-2 : tie.Need-returns
 returns-2 c =
-    let s = c.before.before in
+    let s = c in
     let f = s.ranges.last in
-    let r : SFits w32 c.closing_after.result = record { sfits = c.closing_after.type-inv } in
-    simp to_z-of_z (simp to_z-of_z at c.closing_after.ensures) ∙ sym (last-closed s.args.unit s.args.last s.args.goes c.before.if1.false)
+    let r : SFits w32 c.closing_after.result = record { sfits = c.closing_after.type_inv } in
+    simp to_z-of_z (simp to_z-of_z at c.closing_after.ensures) ∙ sym (last-closed s.args.unit s.args.last s.args.goes c.if-goes.false)
 
-pub last-after-spec : {M : Type 1} → statement M
-last-after-spec = tie.close (tie.spec returns (λ c κs. search rules) returns-2)
+pub last_after_spec : {M : Type 1} → statement M
+last_after_spec = tie.close (tie.spec returns (λ c κs. search rules) returns-2)

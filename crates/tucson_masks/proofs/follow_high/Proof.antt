@@ -5,36 +5,36 @@ use Rattle.tucson_masks.proofs.Bytes256.{high_is}
 use Rattle.tucson_masks.proofs.follow_high.Statement.{statement}
 use Rattle.tucson_masks.proofs.follow_high.Tie as tie
 
-returns : tie.Need-returns
-returns c = let s = c.before in let b = s.args.byte in sym (high_is b s.ranges.byte.fits ∙ rw (lt-ltb b 194 c.if1.true))
+returns : tie.Need-returns-then-byte-lt194
+returns c = let s = c in let b = s.args.byte in sym (high_is b s.ranges.byte.fits ∙ rw (lt-ltb b 194 c.if-byte-lt194.true))
 
-returns-2 : tie.Need-returns-2
+returns-2 : tie.Need-returns-then-byte-gt244
 returns-2 c =
-    let s = c.before.before in
+    let s = c in
     let b = s.args.byte in
-    sym (high_is b s.ranges.byte.fits ∙ rw (le-ltb b 194 c.before.if1.false, lt-ltb 244 b c.if2.true))
+    sym (high_is b s.ranges.byte.fits ∙ rw (le-ltb b 194 c.if-byte-lt194.false, lt-ltb 244 b c.if-byte-gt244.true))
 
-returns-3 : tie.Need-returns-3
+returns-3 : tie.Need-returns-then-byte-eq237
 returns-3 c =
-    let s = c.before.before.before in
+    let s = c in
     let b = s.args.byte in
-    sym (high_is b s.ranges.byte.fits ∙ rw (le-ltb b 194 c.before.before.if1.false, le-ltb 244 b c.before.if2.false, eq-eqb b 237 c.if3.true))
+    sym (high_is b s.ranges.byte.fits ∙ rw (le-ltb b 194 c.if-byte-lt194.false, le-ltb 244 b c.if-byte-gt244.false, eq-eqb b 237 c.if-byte-eq237.true))
 
-returns-4 : tie.Need-returns-4
+returns-4 : tie.Need-returns-then-byte-eq244
 returns-4 c =
-    let s = c.before.before.before.before in
+    let s = c in
     let b = s.args.byte in
     sym
     (high_is b s.ranges.byte.fits
-    ∙ rw (le-ltb b 194 c.before.before.before.if1.false, le-ltb 244 b c.before.before.if2.false, ne_eqb b 237 c.before.if3.false, eq-eqb b 244 c.if4.true))
+    ∙ rw (le-ltb b 194 c.if-byte-lt194.false, le-ltb 244 b c.if-byte-gt244.false, ne_eqb b 237 c.if-byte-eq237.false, eq-eqb b 244 c.if-byte-eq244.true))
 
-returns-5 : tie.Need-returns-5
+returns-5 : tie.Need-returns
 returns-5 c =
-    let s = c.before.before.before.before in
+    let s = c in
     let b = s.args.byte in
     sym
     (high_is b s.ranges.byte.fits
-    ∙ rw (le-ltb b 194 c.before.before.before.if1.false, le-ltb 244 b c.before.before.if2.false, ne_eqb b 237 c.before.if3.false, ne_eqb b 244 c.if4.false))
+    ∙ rw (le-ltb b 194 c.if-byte-lt194.false, le-ltb 244 b c.if-byte-gt244.false, ne_eqb b 237 c.if-byte-eq237.false, ne_eqb b 244 c.if-byte-eq244.false))
 
-pub follow-high-spec : {M : Type 1} → statement M
-follow-high-spec = tie.close (tie.spec returns returns-2 returns-3 returns-4 returns-5)
+pub follow_high_spec : {M : Type 1} → statement M
+follow_high_spec = tie.close (tie.spec returns returns-2 returns-3 returns-4 returns-5)

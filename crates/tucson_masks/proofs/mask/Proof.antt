@@ -6,11 +6,11 @@ use Rattle.spec_tucson.specs.StrictLine.{question_mark}
 use Rattle.tucson_masks.proofs.mask.Statement.{statement}
 use Rattle.tucson_masks.proofs.mask.Tie as tie
 
-returns : tie.Need-returns
-returns c = let byte = c.before.args.byte in sym (ap (λ (b : Bool). cond b question_mark byte) (le-leb 128 byte c.if1.true))
+returns : tie.Need-returns-then-byte-ge-HIGH
+returns c = let byte = c.args.byte in sym (ap (λ (b : Bool). cond b question_mark byte) (le-leb 128 byte c.if-byte-ge-HIGH.true))
 
-returns-2 : tie.Need-returns-2
-returns-2 c = let byte = c.before.args.byte in sym (ap (λ (b : Bool). cond b question_mark byte) (lt-leb 128 byte c.if1.false))
+returns-2 : tie.Need-returns
+returns-2 c = let byte = c.args.byte in sym (ap (λ (b : Bool). cond b question_mark byte) (lt-leb 128 byte c.if-byte-ge-HIGH.false))
 
-pub mask-spec : {M : Type 1} → statement M
-mask-spec = tie.close (tie.spec returns returns-2)
+pub mask_spec : {M : Type 1} → statement M
+mask_spec = tie.close (tie.spec returns returns-2)

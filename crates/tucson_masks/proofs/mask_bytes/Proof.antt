@@ -18,19 +18,19 @@ record Masking (bytes : Text) (n : ℕ) (line₀ line : Text) (i : ℕ) : Type 0
   size : length line ≡ length line₀
   are : take i line ≡ bytes_masked (take i bytes)
 
-abbrev invariant-loop : tie.invariant-loop
+abbrev invariant-loop : tie.invariant-loop-i
 invariant-loop bytes n line₀ i₀ line i = Masking bytes n line₀ line i
 
-abbrev decreases-loop : tie.decreases-loop
+abbrev decreases-loop : tie.decreases-loop-i
 decreases-loop bytes n line₀ i₀ line i = n - i
 
-loop-holds : tie.Need-loop-init invariant-loop decreases-loop
+loop-holds : tie.Need-loop-i-init invariant-loop decreases-loop
 loop-holds c = record { within = omega arith; size = refl; are = sym masked-none }
 
-loop-again : tie.Need-loop-preserved invariant-loop decreases-loop
+loop-again : tie.Need-loop-i-preserved invariant-loop decreases-loop
 loop-again c =
-    let l = c.before.before.before.loop in
-    let s = c.before.before.before.before.before.before in
+    let l = c.loop-i in
+    let s = c in
     let bytes = s.args.bytes.now in
     record {
       within = omega arith;
@@ -41,18 +41,18 @@ loop-again c =
           ∙ sym (masked_append (take l.i bytes) (get_or bytes l.i 0 ∷ []) ∙ ap (λ (t : Text). bytes_masked (take l.i bytes) ++ t) (masked_one (get_or bytes l.i 0))));
     }
 
-same_length : tie.Need-same-length invariant-loop decreases-loop
-same_length c = c.before.loop.invariant.size
+same_length : tie.Need-shape_of-line invariant-loop decreases-loop
+same_length c = c.loop-i.invariant.size
 
 returns : tie.Need-returns invariant-loop decreases-loop
 returns c =
-    let l = c.before.loop in
-    let s = c.before.before.before.before in
+    let l = c.loop-i in
+    let s = c in
     let e : s.args.n ≡ l.i = omega arith in
     rw e l.invariant.are
 
-pub mask-bytes-spec : {M : Type 1} → statement M
-mask-bytes-spec =
+pub mask_bytes_spec : {M : Type 1} → statement M
+mask_bytes_spec =
     tie.close
     (tie.spec
     invariant-loop

@@ -20,15 +20,15 @@ nothing : (t line : Text) → masked t ≡ none → MaskedTold t 0 line
 nothing t line e = record { few = omega arith; is = e }
 
 -- both forms are made
-module _ (c : tie.After-is-strict2) where
-  abbrev put : tie.After-mask-bytes
-  put = c.before.before.before.before
+module _ (c : tie.After-is_strict) where
+  abbrev put : tie.After-mask_bytes
+  put = c.before.before.before
 
-  abbrev tried : tie.After-is-strict
+  abbrev tried : tie.After-is_strict-second
   tried = put.before.before
 
-  abbrev read : tie.After-mask-characters
-  read = tried.before.before.before.before
+  abbrev read : tie.After-mask_characters-count
+  read = tried.before.before.before
 
   abbrev s : tie.Start
   s = read.before.before.before.before
@@ -37,59 +37,59 @@ module _ (c : tie.After-is-strict2) where
   t = take s.args.n s.args.bytes.now
 
   abbrev count : ℕ
-  count = read.mask-characters.result
+  count = read.mask_characters-count.result
 
   abbrev second : Text
-  second = read.mask-characters.last.1.1.0
+  second = read.mask_characters-count.new.line
 
   abbrev first : Text
-  first = put.mask-bytes.last.1.1.0
+  first = put.mask_bytes.new.line
 
   second-room : length second ≡ cells
-  second-room = read.mask-characters.kept.1.1.0 ∙ s.pre.room
+  second-room = read.mask_characters-count.auto.line ∙ s.requires.room
 
   first-room : length first ≡ cells
-  first-room = put.mask-bytes.kept.1.1.0 ∙ second-room
+  first-room = put.mask_bytes.auto.line ∙ second-room
 
   told : characters_masked t ≡ cond (leb count cells) (some (take count second)) none
-  told = read.mask-characters.ensures
+  told = read.mask_characters-count.ensures
 
-  second_tried : tried.is-strict.result ≡ is_strict (take count second)
-  second_tried = tried.is-strict.ensures
+  second_tried : tried.is_strict-second.result ≡ is_strict (take count second)
+  second_tried = tried.is_strict-second.ensures
 
-  first_tried : c.is-strict2.result ≡ is_strict (bytes_masked t)
-  first_tried = c.is-strict2.ensures ∙ ap is_strict put.mask-bytes.ensures
+  first_tried : c.is_strict.result ≡ is_strict (bytes_masked t)
+  first_tried = c.is_strict.ensures ∙ ap is_strict put.mask_bytes.ensures
 
-returns : tie.Need-returns
+returns : tie.Need-returns-then-second
 returns c =
-    let k = c.before.before in
-    let b : is_strict (take (count k) (second k)) ≡ true = sym (second_tried k) ∙ c.if2.true in
-    nothing (t k) (first k)
-    (both_forms (t k) (take (count k) (second k)) (sym (first_tried k) ∙ c.before.if1.true) (second_is (t k) (second k) (count k) (second-room k) (told k) b) b)
+    let k = c in
+    let b : is_strict (take (count k.before.before) (second k.before.before)) ≡ true = sym (second_tried k.before.before) ∙ c.if-second.true in
+    nothing (t k.before.before) (first k.before.before)
+    (both_forms (t k.before.before) (take (count k.before.before) (second k.before.before)) (sym (first_tried k.before.before) ∙ c.if-is_strict.true) (second_is (t k.before.before) (second k.before.before) (count k.before.before) (second-room k.before.before) (told k.before.before) b) b)
 
-returns-2 : tie.Need-returns-2
+returns-2 : tie.Need-returns-then-is_strict
 returns-2 c =
-    let k = c.before.before in
-    first_told (t k) (first k) (s k).args.n (first-room k) (put k).mask-bytes.ensures (sym k.is-strict2.ensures ∙ c.before.if1.true)
-    (second_not (t k) (second k) (count k) (second-room k) (told k) (sym (second_tried k) ∙ c.if2.false))
+    let k = c in
+    first_told (t k.before.before) (first k.before.before) (s k.before.before).args.n (first-room k.before.before) (put k.before.before).mask_bytes.ensures (sym k.is_strict.ensures ∙ c.if-is_strict.true)
+    (second_not (t k.before.before) (second k.before.before) (count k.before.before) (second-room k.before.before) (told k.before.before) (sym (second_tried k.before.before) ∙ c.if-second.false))
 
-returns-3 : tie.Need-returns-3
+returns-3 : tie.Need-returns-then-second-2
 returns-3 c =
-    let m = c.before.before in
-    let d = m.before.before in
-    let k = d.before.before in
-    let b : is_strict (take (count k) (second k)) ≡ true = sym (second_tried k) ∙ d.if3.true in
-    second-again (t k) m.mask-characters2.new.1.1.0 m.mask-characters2.result (m.mask-characters2.auto.1.1.0 ∙ first-room k) m.mask-characters2.ensures
-    (take (count k) (second k)) (second_is (t k) (second k) (count k) (second-room k) (told k) b) b (sym (first_tried k) ∙ d.before.if1.false)
+    let m = c in
+    let d = m in
+    let k = d in
+    let b : is_strict (take (count k.before.before.before.before.before.before) (second k.before.before.before.before.before.before)) ≡ true = sym (second_tried k.before.before.before.before.before.before) ∙ d.if-second-2.true in
+    second-again (t k.before.before.before.before.before.before) m.mask_characters.new.line m.mask_characters.result (m.mask_characters.auto.line ∙ first-room k.before.before.before.before.before.before) m.mask_characters.ensures
+    (take (count k.before.before.before.before.before.before) (second k.before.before.before.before.before.before)) (second_is (t k.before.before.before.before.before.before) (second k.before.before.before.before.before.before) (count k.before.before.before.before.before.before) (second-room k.before.before.before.before.before.before) (told k.before.before.before.before.before.before) b) b (sym (first_tried k.before.before.before.before.before.before) ∙ d.if-is_strict.false)
 
-returns-4 : tie.Need-returns-4
+returns-4 : tie.Need-returns
 returns-4 c =
-    let k = c.before.before in
-    nothing (t k) (first k)
-    (no_form (t k) (sym (first_tried k) ∙ c.before.if1.false) (second_not (t k) (second k) (count k) (second-room k) (told k) (sym (second_tried k) ∙ c.if3.false)))
+    let k = c in
+    nothing (t k.before.before) (first k.before.before)
+    (no_form (t k.before.before) (sym (first_tried k.before.before) ∙ c.if-is_strict.false) (second_not (t k.before.before) (second k.before.before) (count k.before.before) (second-room k.before.before) (told k.before.before) (sym (second_tried k.before.before) ∙ c.if-second-2.false)))
 
-pub masked-spec : {M : Type 1} → statement M
-masked-spec =
+pub masked_spec : {M : Type 1} → statement M
+masked_spec =
     tie.close
     (tie.spec
     (λ c κs. search rules)

@@ -9,14 +9,14 @@ use Rattle.tucson_notes.specs.Machine.{number_in}
 use Rattle.tucson_notes.proofs.field.Statement.{statement}
 use Rattle.tucson_notes.proofs.field.Tie as tie
 
-returns : tie.Need-returns
+returns : tie.Need-returns-in-Bad
 unfolding number_in
-returns c = ap number_in (sym (field-none _ (sym c.before.before.numeral.ensures ∙ c.enum_told.given.1)))
+returns c = ap number_in (sym (field-none _ (sym c.numeral-found.ensures ∙ c.in-Bad.is)))
 
-returns-2 : tie.Need-returns-2
+returns-2 : tie.Need-returns-in-Numeral
 unfolding number_in
-returns-2 c = let f : SFits w32 c.before.found.given.0.0 = record { sfits = c.known-told.given.0.1 } in
-    simp to_z-of_z (ap number_in (sym (field_some _ _ (sym c.before.before.before.numeral.ensures ∙ c.before.found.given.1))))
+returns-2 c = let f : SFits w32 c.in-Numeral.z = record { sfits = c.in-Numeral.known_told-1-own.given.0.1 } in
+    simp to_z-of_z (ap number_in (sym (field_some _ _ (sym c.numeral-found.ensures ∙ c.in-Numeral.is))))
 
-pub field-spec : {M : Type 1} → statement M
-field-spec = tie.close (tie.spec (λ c. search rules) (λ c κs. search rules) (λ c. search rules) (λ c. search rules) returns returns-2)
+pub field_spec : {M : Type 1} → statement M
+field_spec = tie.close (tie.spec (λ c. search rules) (λ c κs. search rules) (λ c. search rules) (λ c. search rules) returns returns-2)

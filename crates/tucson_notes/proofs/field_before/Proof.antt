@@ -15,9 +15,9 @@ use Rattle.tucson_notes.specs.Machine.{number_in, before_in}
 use Rattle.tucson_notes.proofs.field_before.Statement.{statement}
 use Rattle.tucson_notes.proofs.field_before.Tie as tie
 
-returns : tie.Need-returns
+returns : tie.Need-returns-then-count-lt2
 unfolding before_in
-returns c = rw (lt-ltb c.before.before.args.count 2 (omega arith))
+returns c = rw (lt-ltb c.args.count 2 (omega arith))
 
 -- of two fields it is the first
 two_fields : (line : Text) (n : ℕ) (count : ℕ) → count ≡ 2 → n ≡ 12 + count * field_columns → number_in (in_columns (slice 12 (12 + field_columns) line)) ≡ before_in count n line
@@ -27,18 +27,18 @@ two_fields line n count e w =
     ap (λ (k : ℕ). number_in (in_columns (slice k (k + field_columns) line))) twelve
     ∙ rw (le-ltb count 2 (omega (arith, e)))
 
-returns-2 : tie.Need-returns-2
+returns-2 : tie.Need-returns-then-count-eq2
 returns-2 c =
-    let s = c.before.before.before in
+    let s = c in
     let f = s.ranges.first in
-    simp to_z-of_z (s.requires.first_is ∙ two_fields s.args.line.now s.args.n s.args.count c.if2.true s.requires.columns_are)
+    simp to_z-of_z (s.requires.first_is ∙ two_fields s.args.line.now s.args.n s.args.count c.if-count-eq2.true s.requires.columns_are)
 
-returns-3 : tie.Need-returns-3
+returns-3 : tie.Need-returns
 unfolding before_in
 returns-3 c =
-    let s = c.before.before.before.before in
-    let f : SFits w32 c.field.result = record { sfits = c.field.type-inv } in
+    let s = c in
+    let f : SFits w32 c.field.result = record { sfits = c.field.type_inv } in
     simp to_z-of_z (c.field.ensures ∙ rw (le-ltb s.args.count 2 (omega arith)))
 
-pub field-before-spec : {M : Type 1} → statement M
-field-before-spec = tie.close (tie.spec returns returns-2 (λ c. search rules) (λ c. search rules) (λ c κs. search rules) returns-3)
+pub field_before_spec : {M : Type 1} → statement M
+field_before_spec = tie.close (tie.spec returns returns-2 (λ c. search rules) (λ c. search rules) (λ c κs. search rules) returns-3)

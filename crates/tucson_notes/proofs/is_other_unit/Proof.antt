@@ -12,17 +12,17 @@ use Rattle.tucson_notes.specs.Machine.{ahead_of}
 use Rattle.tucson_notes.proofs.is_other_unit.Statement.{statement}
 use Rattle.tucson_notes.proofs.is_other_unit.Tie as tie
 
-returns : tie.Need-returns
+returns : tie.Need-returns-then-ahead-eq1
 unfolding is_other_unit ahead_of
 returns c =
-    let s = c.before.before.before.before in
-    let f : SFits w32 s.args.first-closing = s.ranges.first-closing in
-    let g : SFits w32 s.args.ahead.closing = record { sfits = c.before.struct_told.given.1.0.1 } in
+    let s = c in
+    let f : SFits w32 s.args.first_closing = s.ranges.first_closing in
+    let g : SFits w32 s.args.ahead.closing = record { sfits = c.struct_told-1.given.1.0.1 } in
     rw (eq-eqb s.args.ahead.count 1 (omega arith)) (ap not (simp to_z-of_z at c.same.ensures))
 
-returns-2 : tie.Need-returns-2
+returns-2 : tie.Need-returns
 unfolding is_other_unit ahead_of
-returns-2 c = rw (ne_eqb c.before.before.args.ahead.count 1 (omega arith))
+returns-2 c = rw (ne_eqb c.args.ahead.count 1 (omega arith))
 
-pub is-other-unit-spec : {M : Type 1} → statement M
-is-other-unit-spec = tie.close (tie.spec (λ c κs. search rules) returns returns-2)
+pub is_other_unit_spec : {M : Type 1} → statement M
+is_other_unit_spec = tie.close (tie.spec (λ c κs. search rules) returns returns-2)

@@ -16,20 +16,20 @@ module _ (s : tie.Start) where
   columns = size_is s.args.line.now s.args.n s.requires.within s.requires.strict
 
   some : 1 ≤ field_count (take s.args.n s.args.line.now)
-  some = (strict_size (take s.args.n s.args.line.now) s.pre.strict).some_field
+  some = (strict_size (take s.args.n s.args.line.now) s.requires.strict).some_field
 
 returns : tie.Need-returns
 returns c =
-    let s = c.before.before in
+    let s = c in
     let line = s.args.line.now in
     let n = s.args.n in
-    let l : SFits w32 c.field.result = record { sfits = c.field.type-inv } in
+    let l : SFits w32 c.field-last.result = record { sfits = c.field-last.type_inv } in
     record {
       count_is = sym (count-fields line n s.requires.within s.requires.strict ∙ count_is line n s.requires.within s.requires.strict);
-      last_is = simp to_z-of_z (c.field.ensures ∙ sym (last_is line n s.requires.within s.requires.strict));
+      last_is = simp to_z-of_z (c.field-last.ensures ∙ sym (last_is line n s.requires.within s.requires.strict));
     }
 
-pub last-field-spec : {M : Type 1} → statement M
-last-field-spec =
+pub last_field_spec : {M : Type 1} → statement M
+last_field_spec =
     tie.close (tie.spec (λ c. omega (arith, columns c.before)) (λ c. omega (arith, columns c.before))
-    (λ c κs. let s = c.before in omega (arith, columns s, some s, s.requires.within)) returns)
+    (λ c κs. let s = c in omega (arith, columns s.before, some s.before, s.requires.within)) returns)

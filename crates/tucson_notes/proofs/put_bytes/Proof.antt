@@ -33,48 +33,48 @@ puts-all at line out₀ out i e p =
     let q : Puts (length line) at (take (length line) line) out₀ out (at + length line) = subst (λ (k : ℕ). Puts k at (take k line) out₀ out (at + k)) e p in
     puts_as (take_all (length line) line (omega arith)) q
 
-abbrev invariant-loop : tie.invariant-loop
+abbrev invariant-loop : tie.invariant-loop-i
 invariant-loop out₀ at line i₀ out i = Inv out₀ at line out i
 
-abbrev decreases-loop : tie.decreases-loop
+abbrev decreases-loop : tie.decreases-loop-i
 decreases-loop out₀ at line i₀ out i = length line - i
 
-loop-holds : tie.Need-loop-init invariant-loop decreases-loop
+loop-holds : tie.Need-loop-i-init invariant-loop decreases-loop
 loop-holds c =
-    let s = c.before.before.before.before in
+    let s = c in
     record { within = omega arith; put = puts-start s.args.at s.args.out.now }
 
-slice-write-out : tie.Need-slice-write-out invariant-loop decreases-loop
-slice-write-out c = let l = c.before.before.loop in omega (arith, puts_length l.invariant.put)
+slice-write-out : tie.Need-bounds-out-at invariant-loop decreases-loop
+slice-write-out c = let l = c.loop-i in omega (arith, puts_length l.invariant.put)
 
-loop-again : tie.Need-loop-preserved invariant-loop decreases-loop
+loop-again : tie.Need-loop-i-preserved invariant-loop decreases-loop
 loop-again c =
-    let l = c.before.before.loop in
-    let s = c.before.before.before.before.before.before.before in
+    let l = c.loop-i in
+    let s = c in
     record { within = omega arith; put = puts-next s.args.at s.args.line.now s.args.out.now l.out l.i (omega arith) l.invariant.put }
 
-same-length-3 : tie.Need-same-length-3 invariant-loop decreases-loop
-same-length-3 c = puts_length c.before.loop.invariant.put
+same-length-3 : tie.Need-shape_of-out invariant-loop decreases-loop
+same-length-3 c = puts_length c.loop-i.invariant.put
 
-returns-3 : tie.Need-returns-3 invariant-loop decreases-loop
+returns-3 : tie.Need-returns invariant-loop decreases-loop
 returns-3 c =
-    let l = c.before.loop in
-    let s = c.before.before.before.before.before.before in
+    let l = c.loop-i in
+    let s = c in
     puts-all s.args.at s.args.line.now s.args.out.now l.out l.i (omega arith) l.invariant.put
 
-pub put-bytes-spec : {M : Type 1} → statement M
-put-bytes-spec =
+pub put_bytes_spec : {M : Type 1} → statement M
+put_bytes_spec =
     tie.close
     (tie.spec
     invariant-loop
     decreases-loop
     (λ c κs. omega arith)
-    (λ c. puts_length c.before.before.put-text.ensures)
-    (λ c. c.before.before.put-text.ensures)
+    (λ c. puts_length c.put_text.ensures)
+    (λ c. c.put_text.ensures)
     (λ c. omega arith)
     (λ c κs. omega arith)
-    (λ c. puts_length c.before.before.put-text2.ensures)
-    (λ c. c.before.before.put-text2.ensures)
+    (λ c. puts_length c.put_text-then-out-at-2.ensures)
+    (λ c. c.put_text-then-out-at-2.ensures)
     loop-holds
     (λ c. omega arith)
     (λ c. omega arith)

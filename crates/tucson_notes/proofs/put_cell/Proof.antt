@@ -9,12 +9,12 @@ use Rattle.tucson_notes.proofs.put_cell.Tie as tie
 
 returns : tie.Need-returns
 returns c = record {
-  contents = ⊎_elim (λ w. w.1 ∙ written_byte _ _ _) (λ w. w.1 ∙ written-byte-past _ _ _ w.0.left) c.if1.branch;
+  contents = ⊎_elim (λ w. w.cells-is ∙ written_byte _ _ _) (λ w. w.cells-is ∙ written-byte-past _ _ _ w.if-at-cells.false) c.if-at-cells.branch-raw;
   behind = search rules;
   near = search rules;
 }
 
-pub put-cell-spec : {M : Type 1} → statement M
-put-cell-spec =
+pub put_cell_spec : {M : Type 1} → statement M
+put_cell_spec =
     tie.close (tie.spec (λ c. search rules) (λ c. search rules) (λ c. search rules)
-    (λ c. ⊎_elim (λ w. ap length w.1 ∙ simp length-set) (λ w. ap length w.1) c.if1.branch) returns)
+    (λ c. ⊎_elim (λ w. ap length w.cells-is ∙ simp length-set) (λ w. ap length w.cells-is) c.if-at-cells.branch-raw) returns)

@@ -25,15 +25,15 @@ thousandths-are : (unit : ℕ) → eqb unit hundredths_said ≡ false → 32 ∷
 unfolding closing_of columns decimal digits digits_up_to
 thousandths-are unit e = ap (λ (b : Bool). columns field_columns (cond b hundredths thousandths)) (sym e)
 
-returns : tie.Need-returns
-returns c = let s = c.before.before.before.before.before.before.before in puts_as
-    (hundredths-are s.args.unit (eq-eqb s.args.unit 100 (omega arith))) c.before.before.put-text.ensures
+returns : tie.Need-returns-then-unit-eq-HUNDREDTHS_SAID
+returns c = let s = c in puts_as
+    (hundredths-are s.args.unit (eq-eqb s.args.unit 100 (omega arith))) c.put_text.ensures
 
-returns-2 : tie.Need-returns-2
-returns-2 c = let s = c.before.before.before.before.before.before.before in puts_as
-    (thousandths-are s.args.unit (ne_eqb s.args.unit 100 (omega arith))) c.before.before.put-text2.ensures
+returns-2 : tie.Need-returns
+returns-2 c = let s = c in puts_as
+    (thousandths-are s.args.unit (ne_eqb s.args.unit 100 (omega arith))) c.put_text-2.ensures
 
-pub put-closing-spec : {M : Type 1} → statement M
-put-closing-spec =
-    tie.close (tie.spec (λ c. search rules) (λ c κs. search rules) (λ c. search rules) returns (λ c. search rules) (λ c κs. search rules)
+pub put_closing_spec : {M : Type 1} → statement M
+put_closing_spec =
+    tie.close (tie.spec (λ c κs. search rules) (λ c. search rules) returns (λ c κs. search rules)
     (λ c. search rules) returns-2)

@@ -7,13 +7,13 @@ use Rattle.tucson_notes.proofs.put_marks.Tie as tie
 
 returns : tie.Need-returns
 returns c =
-    let p2 = c.before.before in
-    let p1 = p2.before.before.before.before in
-    let s = p1.before.before.before in
+    let p2 = c in
+    let p1 = p2 in
+    let s = p1 in
     record {
-      puts = puts_as (marks-both s.args.line s.args.marks) (puts_then p1.put-shown-marks.ensures p2.put-form-marks.ensures);
+      puts = puts_as (marks-both s.args.line s.args.marks) (puts_then p1.put_shown_marks-next.ensures p2.put_form_marks.ensures);
       before_all = marks-before s.args.line s.args.marks;
     }
 
-pub put-marks-spec : {M : Type 1} → statement M
-put-marks-spec = tie.close (tie.spec (λ c κs. search rules) (λ c κs. search rules) (λ c. search rules) returns)
+pub put_marks_spec : {M : Type 1} → statement M
+put_marks_spec = tie.close (tie.spec (λ c κs. search rules) (λ c κs. search rules) (λ c. search rules) returns)

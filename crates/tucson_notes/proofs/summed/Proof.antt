@@ -32,16 +32,16 @@ module _ (s : tie.Start) where
   n = s.args.n
 
   within : n ≤ length line
-  within = s.pre.within
+  within = s.requires.within
 
   columns : n ≡ 12 + field_count (take n line) * field_columns
-  columns = size_is line n within s.pre.strict
+  columns = size_is line n within s.requires.strict
 
   counted : field_count (take n line) ≡ (n - 12) / field_columns
-  counted = count_is line n within s.pre.strict
+  counted = count_is line n within s.requires.strict
 
   some : 1 ≤ field_count (take n line)
-  some = (strict_size (take n line) s.pre.strict).some_field
+  some = (strict_size (take n line) s.requires.strict).some_field
 
   asks : {first : ℤ} → first ≡ number_in (in_columns (slice 12 (12 + field_columns) line)) → BeforeAsks line ((n - 12) / field_columns) n first
   asks e = record { some_field = omega (arith, counted, some); columns_are = omega (arith, counted, columns); within = within; first_is = e }
@@ -51,41 +51,41 @@ module _ (s : tie.Start) where
   before = go (le_or_lt 2 (field_count (take n line)))
     where
       go : (2 ≤ field_count (take n line)) ⊎ (field_count (take n line) < 2) → before_in ((n - 12) / field_columns) n line ≡ last_field (drop_last (fields_of (take n line)))
-      go (inl h) = rw (le-ltb ((n - 12) / field_columns) 2 (omega (arith, counted, h))) (sym (before_is line n within s.pre.strict h))
-      go (inr h) = rw (lt-ltb ((n - 12) / field_columns) 2 (omega (arith, counted, h))) (sym (before-none line n within s.pre.strict h))
+      go (inl h) = rw (le-ltb ((n - 12) / field_columns) 2 (omega (arith, counted, h))) (sym (before_is line n within s.requires.strict h))
+      go (inr h) = rw (lt-ltb ((n - 12) / field_columns) 2 (omega (arith, counted, h))) (sym (before-none line n within s.requires.strict h))
 
-sub-count : tie.Need-overflow-sub-count
+sub-count : tie.Need-overflow_sub-count
 sub-count c = omega (arith, columns c.before)
 
-field-requires : tie.Need-field-requires
-field-requires c κs = let s = c.before in omega (arith, columns s, some s, within s)
+field-requires : tie.Need-field-first-requires
+field-requires c κs = let s = c in omega (arith, columns s.before, some s.before, within s.before)
 
-field-requires-2 : tie.Need-field-requires-2
-field-requires-2 c κs = let s = c.before.before in omega (arith, columns s, some s, within s)
+field-requires-2 : tie.Need-field-last-requires
+field-requires-2 c κs = let s = c in omega (arith, columns s.before.before, some s.before.before, within s.before.before)
 
-sub-field : tie.Need-overflow-sub-field
+sub-field : tie.Need-overflow_sub-n
 sub-field c = omega (arith, columns c.before.before)
 
-field-before-requires : tie.Need-field-before-requires
+field-before-requires : tie.Need-field_before-before-requires
 field-before-requires c κs =
-    let d = c.before in
-    let f : SFits w32 d.field.result = record { sfits = d.field.type-inv } in
-    asks d.before.before (simp to_z-of_z d.field.ensures)
+    let d = c in
+    let f : SFits w32 d.field-first.result = record { sfits = d.field-first.type_inv } in
+    asks d.before.before.before (simp to_z-of_z d.field-first.ensures)
 
 returns : tie.Need-returns
 returns c =
-    let s = c.before.before.before.before in
-    let f : SFits w32 c.before.before.field.result = record { sfits = c.before.before.field.type-inv } in
-    let l : SFits w32 c.before.field2.result = record { sfits = c.before.field2.type-inv } in
-    let b : SFits w32 c.field-before.result = record { sfits = c.field-before.type-inv } in
-    let w = within s in
+    let s = c in
+    let f : SFits w32 c.field-first.result = record { sfits = c.field-first.type_inv } in
+    let l : SFits w32 c.field-last.result = record { sfits = c.field-last.type_inv } in
+    let b : SFits w32 c.field_before-before.result = record { sfits = c.field_before-before.type_inv } in
+    let w = within s.before.before.before.before in
     record {
-      some_field = omega (arith, count-fields (line s) (n s) w s.requires.strict, some s);
-      count_is = sym (count-fields (line s) (n s) w s.requires.strict ∙ counted s);
-      first_is = simp to_z-of_z (c.before.before.field.ensures ∙ sym (first_is (line s) (n s) w s.requires.strict));
-      last_is = simp to_z-of_z (c.before.field2.ensures ∙ sym (last_is (line s) (n s) w s.requires.strict));
-      before_is = simp to_z-of_z (c.field-before.ensures ∙ before s);
+      some_field = omega (arith, count-fields (line s.before.before.before.before) (n s.before.before.before.before) w s.requires.strict, some s.before.before.before.before);
+      count_is = sym (count-fields (line s.before.before.before.before) (n s.before.before.before.before) w s.requires.strict ∙ counted s.before.before.before.before);
+      first_is = simp to_z-of_z (c.field-first.ensures ∙ sym (first_is (line s.before.before.before.before) (n s.before.before.before.before) w s.requires.strict));
+      last_is = simp to_z-of_z (c.field-last.ensures ∙ sym (last_is (line s.before.before.before.before) (n s.before.before.before.before) w s.requires.strict));
+      before_is = simp to_z-of_z (c.field_before-before.ensures ∙ before s.before.before.before.before);
     }
 
-pub summed-spec : {M : Type 1} → statement M
-summed-spec = tie.close (tie.spec sub-count field-requires sub-field field-requires-2 field-before-requires returns)
+pub summed_spec : {M : Type 1} → statement M
+summed_spec = tie.close (tie.spec sub-count field-requires sub-field field-requires-2 field-before-requires returns)

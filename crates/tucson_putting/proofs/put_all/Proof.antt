@@ -98,9 +98,9 @@ mul-put-series-2 c =
     let w = c.loop-k.invariant.walked in
     omega (arith, name-within w (omega arith), widths_within w (omega arith))
 
-part-put-series-end-2 : tie.Need-slice-bounds-put-series-end-2 invariant-loop decreases-loop
+part-put-series-end-2 : tie.Need-slice_bounds-put_series-end-in-loop-k invariant-loop decreases-loop
 part-put-series-end-2 c =
-    let w = c.before.before.before.before.before.loop-k.invariant.walked in
+    let w = c.loop-k.invariant.walked in
     omega (arith, name-within w (omega arith), widths_within w (omega arith))
 
 put-series-requires : tie.Need-put_series-next-requires invariant-loop decreases-loop
@@ -109,14 +109,14 @@ put-series-requires c κs =
     let a = (s t.before.before.before.before.before.before).args in
     let l = t.loop-k in
     let f : SFits w32 (get_or a.years.now l.k (pos 0)) = record { sfits = c.put_series-arg-in-loop-k-2-1.given } in
-    let w = (writable t (omega arith)).0 in
+    let w = (writable t.before.before.before.before.before.before (omega arith)).0 in
     let wrote = (i t.before.before.before.before.before.before).wrote in
     let name_is = part_is l.at (l.at + name_columns) a.names.now (omega arith) in
     let widths_are = part_is l.from (l.from + count t.before.before.before.before.before.before) a.widths.now (omega arith) in
     simp to_z-of_z (rw (name_is, widths_are) (record {
       named = w.named;
-      dated = sym (series_years _ _ _ w.decreases) ∙ w.dated;
-      allowed = w.decreases;
+      dated = sym (series_years _ _ _ w.measured) ∙ w.dated;
+      allowed = w.measured;
       fits = omega (
         arith,
         (s t.before.before.before.before.before.before).requires.fits,
@@ -124,7 +124,7 @@ put-series-requires c κs =
         wrote_length wrote,
         ap length (i t.before.before.before.before.before.before).whole,
         length-append (i t.before.before.before.before.before.before).so_far (written (from_here t.before.before.before.before.before.before l.at l.from l.k)),
-        ap length (text-step t (omega arith)),
+        ap length (text-step t.before.before.before.before.before.before (omega arith)),
         length-append (lines_text (series_lines (here t.before.before.before.before.before.before))) (written (later t.before.before.before.before.before.before)),
       );
     }))
@@ -140,11 +140,11 @@ loop-again c =
     record {
       walked = walk_more (i t.before.before.before.before.before.before.before.before.before).walked (omega arith);
       before = (here t.before.before.before.before.before.before.before.before.before).name;
-      allowed = (writable t (omega arith)).1;
+      allowed = (writable t.before.before.before.before.before.before.before.before.before (omega arith)).1;
       so_far = (i t.before.before.before.before.before.before.before.before.before).so_far ++ lines_text (series_lines (here t.before.before.before.before.before.before.before.before.before));
       whole =
           append_assoc (i t.before.before.before.before.before.before.before.before.before).so_far (lines_text (series_lines (here t.before.before.before.before.before.before.before.before.before))) (written (later t.before.before.before.before.before.before.before.before.before))
-          ∙ ap (λ (u : Text). (i t.before.before.before.before.before.before.before.before.before).so_far ++ u) (sym (text-step t (omega arith)))
+          ∙ ap (λ (u : Text). (i t.before.before.before.before.before.before.before.before.before).so_far ++ u) (sym (text-step t.before.before.before.before.before.before.before.before.before (omega arith)))
           ∙ (i t.before.before.before.before.before.before.before.before.before).whole;
       wrote = wrote_then (i t.before.before.before.before.before.before.before.before.before).wrote (rw (name_is, widths_are) at (simp to_z-of_z at c.put_series-next.ensures));
     }

@@ -67,15 +67,15 @@ module _ (l : tie.At-loop-left invariant-loop decreases-loop) where
   ws = s.args.widths.now
 
   abbrev to : ℕ
-  to = l.loop-left.from + l.loop-left.false % 10 + 1
+  to = l.loop-left.from + l.loop-left.left % 10 + 1
 
   all_lines : rest name ws l.years_left-left.result 0 ≡ lines_text (series_lines (series name s.args.first ws))
   all_lines =
-      let f : SFits w32 s.args.first = s.fits.first in
+      let f : SFits w32 s.args.first = s.ranges.first in
       let e : l.years_left-left.result ≡ years_left s.args.first = simp to_z-of_z at l.years_left-left.ensures in
       ap (λ (k : ℕ). rest name ws k 0) e ∙ rest-begins name ws s.args.first (closing-parts s.args.first (length ws) s.requires.dated).dated
 
-  room-left : l.loop-left.next + length (rest name ws l.loop-left.false l.loop-left.from) ≤ length l.loop-left.text
+  room-left : l.loop-left.next + length (rest name ws l.loop-left.left l.loop-left.from) ≤ length l.loop-left.text
   room-left =
       let i = l.loop-left.invariant in
       omega (
@@ -85,7 +85,7 @@ module _ (l : tie.At-loop-left invariant-loop decreases-loop) where
         wrote_length i.wrote,
         ap length all_lines,
         ap length i.whole,
-        length-append i.so_far (rest name ws l.loop-left.false l.loop-left.from),
+        length-append i.so_far (rest name ws l.loop-left.left l.loop-left.from),
       )
 
 put-line-requires : tie.Need-put_line-next-requires invariant-loop decreases-loop

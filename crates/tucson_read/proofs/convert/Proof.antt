@@ -24,25 +24,25 @@ from-thousandths : (z : ℤ) (ws : List ℤ) → same z hundredths ≡ false →
 unfolding in_thousandths
 from-thousandths z ws e = sym (ap (λ (b : Bool). cond b (from_hundredths ws) ws) e)
 
-closing-test : (c : tie.After-same) → c.same.result ≡ same c.before.args.closing hundredths
-closing-test c = let f = c.before.ranges.closing in simp to_z-of_z at c.same.ensures
+closing-test : (c : tie.After-same) → c.same.result ≡ same c.args.closing hundredths
+closing-test c = let f = c.ranges.closing in simp to_z-of_z at c.same.ensures
 
-returns : tie.Need-returns
+returns : tie.Need-returns-then-same
 returns c =
-    let t = c.before.before.before in
-    let s = t.before.before in
-    let yes = sym (closing-test t.before) ∙ t.if1.true in
-    c.before.scale.ensures ∙ ap (sets s.args.widths.now s.args.from) (from-hundredths s.args.closing _ yes)
+    let t = c in
+    let s = t in
+    let yes = sym (closing-test t.before.before.before.before) ∙ t.if-same.true in
+    c.scale.ensures ∙ ap (sets s.args.widths.now s.args.from) (from-hundredths s.args.closing _ yes)
 
-returns-2 : tie.Need-returns-2
+returns-2 : tie.Need-returns
 returns-2 c =
-    let s = c.before.before in
+    let s = c in
     let w = s.args.widths.now in
     let from = s.args.from in
     let e : from + (s.args.to - from) ≡ s.args.to = omega (arith, s.requires.rising) in
-    let no = sym (closing-test c.before) ∙ c.if1.false in
+    let no = sym (closing-test c.before) ∙ c.if-same.false in
     let same-part = sym (from-thousandths s.args.closing (slice from s.args.to w) no) ∙ ap (λ (n : ℕ). slice from n w) (sym e) in
     sym (ap (sets w from) same-part ∙ sets-slice (s.args.to - from) from w (omega (arith, s.requires.within)))
 
-pub convert-spec : {M : Type 1} → statement M
-convert-spec = tie.close (tie.spec (λ c κs. search rules) (λ c κs. search rules) (λ c. search rules) returns returns-2)
+pub convert_spec : {M : Type 1} → statement M
+convert_spec = tie.close (tie.spec (λ c κs. search rules) (λ c κs. search rules) (λ c. search rules) returns returns-2)

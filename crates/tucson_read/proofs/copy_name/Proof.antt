@@ -16,13 +16,13 @@ record Copying (text : Text) (from : ℕ) (before : Text) (at : ℕ) (names : Te
   kept : length names ≡ length before
   left : sets before at (slice from (from + name_columns) text) ≡ sets names (at + i) (slice (from + i) (from + name_columns) text)
 
-abbrev invariant-loop : tie.invariant-loop
+abbrev invariant-loop : tie.invariant-loop-i
 invariant-loop text from names₀ at i₀ names i = Copying text from names₀ at names i
 
-abbrev decreases-loop : tie.decreases-loop
+abbrev decreases-loop : tie.decreases-loop-i
 decreases-loop text from names₀ at i₀ names i = name_columns - i
 
-loop-holds : tie.Need-loop-init invariant-loop decreases-loop
+loop-holds : tie.Need-loop-i-init invariant-loop decreases-loop
 loop-holds c =
     let a = c.args in
     let e : a.at ≡ a.at + 0 = omega arith in
@@ -33,11 +33,11 @@ loop-holds c =
       left = ap₂ (λ (i j : ℕ). sets a.names.now i (slice j (a.from + name_columns) a.text.now)) e f;
     }
 
-loop-again : tie.Need-loop-preserved invariant-loop decreases-loop
+loop-again : tie.Need-loop-i-preserved invariant-loop decreases-loop
 loop-again c =
-    let l = c.before.before.loop in
-    let a = c.before.before.before.args in
-    let h = c.before.loop-test.true in
+    let l = c.loop-i in
+    let a = c.args in
+    let h = c.loop-i-test.true in
     let e : a.from + l.i + 1 ≡ a.from + (l.i + 1) = omega arith in
     let to = a.from + name_columns in
     let byte = get_or a.text.now (a.from + l.i) 0 in
@@ -53,14 +53,14 @@ loop-again c =
 
 returns : tie.Need-returns invariant-loop decreases-loop
 returns c =
-    let l = c.before.loop in
-    let a = c.before.before.args in
-    let e : l.i ≡ name_columns = omega (arith, c.loop-test.false) in
+    let l = c.loop-i in
+    let a = c.args in
+    let e : l.i ≡ name_columns = omega (arith, c.loop-i-test.false) in
     let to = a.from + name_columns in
     let none_left = ap (λ (i : ℕ). slice (a.from + i) to a.text.now) e ∙ slice_empty to a.text.now in
     sym (l.invariant.left ∙ ap (sets l.names (a.at + l.i)) none_left)
 
-pub copy-name-spec : {M : Type 1} → statement M
-copy-name-spec =
+pub copy_name_spec : {M : Type 1} → statement M
+copy_name_spec =
     tie.close (tie.spec invariant-loop decreases-loop loop-holds (λ c. omega arith) (λ c. omega arith) (λ c. omega arith) (λ c. omega arith)
-    (λ c. omega arith) (λ c. omega arith) loop-again (λ c. c.before.loop.invariant.kept) returns)
+    (λ c. omega arith) (λ c. omega arith) loop-again (λ c. c.loop-i.invariant.kept) returns)

@@ -7,11 +7,11 @@ use Rattle.tucson_read.proofs.enter.Tie as tie
 
 returns : tie.Need-returns
 returns c =
-    let s = c.before.before.before.before.before.before.before in
+    let s = c in
     let f = s.ranges.first in
-    simp to_z-of_z (record { name-put = c.before.before.copy_name.ensures; year-put = refl; count-put = refl })
+    simp to_z-of_z (record { name-put = c.copy_name.ensures; year-put = refl; count-put = refl })
 
 pub enter_spec : {M : Type 1} → statement M
 enter_spec =
-    tie.close (tie.spec (λ c. search rules) (λ c κs. c.before.before.before.before.requires.name) (λ c. search rules) (λ c. search rules)
+    tie.close (tie.spec (λ c. search rules) (λ c κs. c.requires.name) (λ c. search rules) (λ c. search rules)
     (λ c. search rules) (λ c. search rules) (λ c. search rules) (λ c. search rules) (λ c. search rules) (λ c. search rules) returns)

@@ -32,15 +32,15 @@ record Filling (text : Text) (from to n : ℕ) (before : List ℤ) (at : ℕ) (w
   numerals : field_numerals (n - i) (slice start to text) ≡ some (NumeralsOf (n - i) (slice start to text))
   left : sets before at (NumeralsOf n (slice from to text)) ≡ sets widths (at + i) (NumeralsOf (n - i) (slice start to text))
 
-abbrev invariant-loop : tie.invariant-loop
+abbrev invariant-loop : tie.invariant-loop-i
 invariant-loop text from to n widths₀ at i₀ start₀ widths i start = Filling text from to n widths₀ at widths i start
 
-abbrev decreases-loop : tie.decreases-loop
+abbrev decreases-loop : tie.decreases-loop-i
 decreases-loop text from to n widths₀ at i₀ start₀ widths i start = n - i
 
-loop-holds : tie.Need-loop-init invariant-loop decreases-loop
+loop-holds : tie.Need-loop-i-init invariant-loop decreases-loop
 loop-holds c =
-    let a = c.before.args in
+    let a = c.args in
     let e : a.at ≡ a.at + 0 = omega arith in
     let f : a.n ≡ a.n - 0 = omega arith in
     let t = slice a.from a.to a.text.now in
@@ -48,44 +48,44 @@ loop-holds c =
       within = omega arith;
       start_is = omega arith;
       kept = refl;
-      numerals = ap (λ (k : ℕ). field_numerals k t) (sym f) ∙ c.before.requires.numerals ∙ ap (λ (k : ℕ). some (NumeralsOf k t)) f;
+      numerals = ap (λ (k : ℕ). field_numerals k t) (sym f) ∙ c.requires.numerals ∙ ap (λ (k : ℕ). some (NumeralsOf k t)) f;
       left = ap₂ (λ (i k : ℕ). sets a.widths.now i (NumeralsOf k t)) e f;
     }
 
 -- a turn's field
-module _ (c : tie.After-numeral invariant-loop decreases-loop) where
+module _ (c : tie.After-numeral-field invariant-loop decreases-loop) where
   abbrev s : tie.Start invariant-loop decreases-loop
   s = c.before.before.before.before
 
   abbrev text : Text
   text = s.args.text.now
 
-  left : 1 ≤ s.args.n - c.before.before.loop.i
+  left : 1 ≤ s.args.n - c.loop-i.i
   left = omega arith
 
-  longer : c.before.before.loop.start + field_columns ≤ s.args.to
+  longer : c.loop-i.start + field_columns ≤ s.args.to
   longer = omega arith
 
-  not_bad : c.numeral.result ≡ field-cases.Bad → ⊥
+  not_bad : c.numeral-field.result ≡ field-cases.Bad → ⊥
   not_bad e =
-      let l = c.before.before.loop in
+      let l = c.loop-i in
       field-numeral text l.start s.args.to (s.args.n - l.i) left longer l.invariant.numerals
-      (field-none _ (sym c.numeral.ensures ∙ e))
+      (field-none _ (sym c.numeral-field.ensures ∙ e))
 
-returns : tie.Need-returns invariant-loop decreases-loop
-returns c = absurd (not_bad c.before.before c.enum_told.given.1)
+returns : tie.Need-returns-in-Bad invariant-loop decreases-loop
+returns c = absurd (not_bad c.before c.in-Bad.is)
 
-loop-again : tie.Need-loop-preserved invariant-loop decreases-loop
+loop-again : tie.Need-loop-i-preserved invariant-loop decreases-loop
 loop-again c =
-    let k = c.before.before.before in
-    let l = k.before.before.loop in
-    let a = (s k).args in
-    let z = c.before.field.given.0.0 in
-    let fits : SFits w32 z = record { sfits = c.known-told.given.0.1 } in
-    let is = field_some _ z (sym k.numeral.ensures ∙ c.before.field.given.1) in
-    let next = field_next (text k) l.start a.to (a.n - l.i) (left k) (longer k) l.invariant.numerals z is in
+    let k = c in
+    let l = k.loop-i in
+    let a = (s k.before).args in
+    let z = c.in-Numeral.z in
+    let fits : SFits w32 z = record { sfits = c.in-Numeral.known_told-1-own.given.0.1 } in
+    let is = field_some _ z (sym k.numeral-field.ensures ∙ c.in-Numeral.is) in
+    let next = field_next (text k.before) l.start a.to (a.n - l.i) (left k.before) (longer k.before) l.invariant.numerals z is in
     let e : a.n - l.i - 1 ≡ a.n - (l.i + 1) = omega arith in
-    let t = slice (l.start + field_columns) a.to (text k) in
+    let t = slice (l.start + field_columns) a.to (text k.before) in
     simp to_z-of_z (record {
       within = omega arith;
       start_is = omega arith;
@@ -97,17 +97,17 @@ loop-again c =
           ∙ ap (λ (m : ℕ). sets (set l.widths (a.at + l.i) z) (a.at + (l.i + 1)) (NumeralsOf m t)) e;
     })
 
-returns-2 : tie.Need-returns-2 invariant-loop decreases-loop
+returns-2 : tie.Need-returns invariant-loop decreases-loop
 returns-2 c =
-    let l = c.before.loop in
-    let a = c.before.before.before.args in
-    let e : a.n - l.i ≡ 0 = omega (arith, c.loop-test.false) in
+    let l = c.loop-i in
+    let a = c.args in
+    let e : a.n - l.i ≡ 0 = omega (arith, c.loop-i-test.false) in
     let t = slice l.start a.to a.text.now in
     sym (l.invariant.left ∙ ap (sets l.widths (a.at + l.i)) (ap (λ (m : ℕ). NumeralsOf m t) e ∙ fields-none t))
 
 pub fill_spec : {M : Type 1} → statement M
 fill_spec =
     tie.close (tie.spec invariant-loop decreases-loop loop-holds (λ c. omega arith) (λ c κs. omega arith) (λ c. search rules)
-    (λ c. absurd (not_bad c.before.before c.enum_told.given.1)) returns (λ c. search rules) (λ c. omega arith)
-    (λ c. let s = c.before.before.before.before.before.before.before in omega (arith, s.well-formed)) (λ c. omega arith) (λ c. omega arith)
-    (λ c. omega arith) (λ c. omega arith) loop-again (λ c. c.before.loop.invariant.kept) returns-2)
+    (λ c. absurd (not_bad c.before c.in-Bad.is)) returns (λ c. search rules) (λ c. omega arith)
+    (λ c. let s = c in omega (arith, s.well_formed)) (λ c. omega arith) (λ c. omega arith)
+    (λ c. omega arith) (λ c. omega arith) loop-again (λ c. c.loop-i.invariant.kept) returns-2)

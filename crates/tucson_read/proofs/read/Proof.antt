@@ -22,65 +22,65 @@ given s = record {
 }
 
 -- the text is good
-module _ (c : tie.After-known-told2) where
+module _ (c : tie.In-Totals) where
   abbrev s : tie.Start
-  s = c.before.before.before.before.before.before.before
+  s = c.before.before.before.before.before
 
   abbrev series : ℕ
-  series = c.before.scanned2.given.0.0
+  series = c.in-Totals.series
 
   abbrev total : ℕ
-  total = c.before.scanned2.given.0.1.0
+  total = c.in-Totals.total
 
   found : Found (read_text s.args.text.now) series total
-  found = scan-found (read_text s.args.text.now) series total (sym c.before.scanned2.given.1 ∙ c.before.before.before.scan.ensures)
+  found = scan-found (read_text s.args.text.now) series total (sym c.in-Totals.is ∙ c.scan-scanned.ensures)
 
 -- the buffers are long enough
-module _ (c : tie.Else4) where
-  abbrev k : tie.After-known-told2
+module _ (c : tie.Else-widths-total) where
+  abbrev k : tie.In-Totals
   k = c.before.before.before.before
 
   names_long : length (found k).list ≤ length (s k).args.names.now / name_columns
-  names_long = omega (arith, (found k).series_is, c.before.before.before.if1.false)
+  names_long = omega (arith, (found k).series_is, c.if-names-series.false)
 
   years_long : length (found k).list ≤ length (s k).args.years.now
-  years_long = omega (arith, (found k).series_is, c.before.before.if2.false)
+  years_long = omega (arith, (found k).series_is, c.if-years-series.false)
 
   counts_long : length (found k).list ≤ length (s k).args.counts.now
-  counts_long = omega (arith, (found k).series_is, c.before.if3.false)
+  counts_long = omega (arith, (found k).series_is, c.if-counts-series.false)
 
   widths_long : length (widths_of (found k).list) ≤ length (s k).args.widths.now
-  widths_long = omega (arith, (found k).total_is, c.if4.false)
+  widths_long = omega (arith, (found k).total_is, c.if-widths-total.false)
 
-returns : tie.Need-returns
-returns c = let k = c.before in short-names (given (s k)) (found k).is (omega (arith, (found k).series_is, c.if1.true))
+returns : tie.Need-returns-then-names-series
+returns c = let k = c in short-names (given (s k.before)) (found k.before).is (omega (arith, (found k.before).series_is, c.if-names-series.true))
 
-returns-2 : tie.Need-returns-2
-returns-2 c = let k = c.before.before in short_years (given (s k)) (found k).is (omega (arith, (found k).series_is, c.if2.true))
+returns-2 : tie.Need-returns-then-years-series
+returns-2 c = let k = c in short_years (given (s k.before.before)) (found k.before.before).is (omega (arith, (found k.before.before).series_is, c.if-years-series.true))
 
-returns-3 : tie.Need-returns-3
-returns-3 c = let k = c.before.before.before in short-counts (given (s k)) (found k).is (omega (arith, (found k).series_is, c.if3.true))
+returns-3 : tie.Need-returns-then-counts-series
+returns-3 c = let k = c in short-counts (given (s k.before.before.before)) (found k.before.before.before).is (omega (arith, (found k.before.before.before).series_is, c.if-counts-series.true))
 
-returns-4 : tie.Need-returns-4
-returns-4 c = let k = c.before.before.before.before in short_widths (given (s k)) (found k).is (omega (arith, (found k).total_is, c.if4.true))
+returns-4 : tie.Need-returns-then-widths-total
+returns-4 c = let k = c in short_widths (given (s k.before.before.before.before)) (found k.before.before.before.before).is (omega (arith, (found k.before.before.before.before).total_is, c.if-widths-total.true))
 
 write-requires : tie.Need-write-requires
 write-requires c κs =
-    let e = c.before.before.before.before in
-    let h = k e in
-    write-ready (given (s h)) (found h).is (names_long e) (years_long e) (counts_long e) (widths_long e)
+    let e = c in
+    let h = k e.before.before.before.before in
+    write-ready (given (s h)) (found h).is (names_long e.before.before.before.before) (years_long e.before.before.before.before) (counts_long e.before.before.before.before) (widths_long e.before.before.before.before)
 
-returns-5 : tie.Need-returns-5
+returns-5 : tie.Need-returns-in-Refused
 returns-5 c =
-    let s = c.before.before.before.before.before.before.before in
-    read_refused (given s) (scan_refused (read_text s.args.text.now) _ _ (sym c.before.scanned.given.1 ∙ c.before.before.before.scan.ensures))
+    let s = c in
+    read_refused (given s.before.before.before.before.before) (scan_refused (read_text s.args.text.now) _ _ (sym c.in-Refused.is ∙ c.scan-scanned.ensures))
 
-returns-6 : tie.Need-returns-6
+returns-6 : tie.Need-returns-else-widths-total
 returns-6 c =
-    let w = c.before.before.before.before.before.before in
-    let e = w.before.before.before.before.before in
-    let h = k e in
-    read-answers (given (s h)) (found h).is (names_long e) (years_long e) (counts_long e) (widths_long e) (found h).series_is w.write.ensures
+    let w = c in
+    let e = w in
+    let h = k e.before.before.before.before.before.before.before.before.before.before.before in
+    read-answers (given (s h)) (found h).is (names_long e.before.before.before.before.before.before.before.before.before.before.before) (years_long e.before.before.before.before.before.before.before.before.before.before.before) (counts_long e.before.before.before.before.before.before.before.before.before.before.before) (widths_long e.before.before.before.before.before.before.before.before.before.before.before) (found h).series_is w.write.ensures
 
 pub read_spec : {M : Type 1} → statement M
 read_spec =

@@ -24,42 +24,42 @@ record Scaling (before : List ℤ) (from to : ℕ) (widths : List ℤ) (i : ℕ)
   all_left : all_widths (slice i to widths) ≡ true
   left : sets before from (from_hundredths (slice from to before)) ≡ sets widths i (from_hundredths (slice i to widths))
 
-abbrev invariant-loop : tie.invariant-loop
+abbrev invariant-loop : tie.invariant-loop-i
 invariant-loop widths₀ from to i₀ widths i = Scaling widths₀ from to widths i
 
-abbrev decreases-loop : tie.decreases-loop
+abbrev decreases-loop : tie.decreases-loop-i
 decreases-loop widths₀ from to i₀ widths i = to - i
 
 -- the width of a turn
-module _ (c : tie.After-w invariant-loop decreases-loop) where
-  fits : SFits w32 (get_or c.before.before.loop.widths c.before.before.loop.i (pos 0))
-  fits = record { sfits = c.w.given }
+module _ (c : tie.After-w-1 invariant-loop decreases-loop) where
+  fits : SFits w32 (get_or c.loop-i.widths c.loop-i.i (pos 0))
+  fits = record { sfits = c.w-1.given }
 
-  here : is_width (get_or c.before.before.loop.widths c.before.before.loop.i (pos 0)) ≡ true
+  here : is_width (get_or c.loop-i.widths c.loop-i.i (pos 0)) ≡ true
   here =
-      let l = c.before.before.loop in
-      let s = c.before.before.before in
-      widths_first l.widths l.i s.args.to c.before.loop-test.true (omega (arith, s.requires.within)) l.invariant.all_left
+      let l = c.loop-i in
+      let s = c in
+      widths_first l.widths l.i s.args.to c.loop-i-test.true (omega (arith, s.requires.within)) l.invariant.all_left
 
-loop-holds : tie.Need-loop-init invariant-loop decreases-loop
+loop-holds : tie.Need-loop-i-init invariant-loop decreases-loop
 loop-holds c = record { above = omega arith; within = c.requires.rising; kept = refl; all_left = c.requires.all; left = refl }
 
-mul-w : tie.Need-overflow-mul-w invariant-loop decreases-loop
-mul-w c = let i = c.before.loop.invariant in omega (arith, c.before.before.requires.within, c.before.before.well-formed)
+mul-w : tie.Need-offset_bounds-widths-i invariant-loop decreases-loop
+mul-w c = let i = c.loop-i.invariant in omega (arith, c.requires.within, c.well_formed)
 
-mul-t7 : tie.Need-overflow-mul-t7 invariant-loop decreases-loop
-mul-t7 c = let i = c.before.before.loop.invariant in omega (arith, c.before.before.before.requires.within, c.before.before.before.well-formed)
+mul-t7 : tie.Need-offset_bounds-widths-i-in-loop-i invariant-loop decreases-loop
+mul-t7 c = let i = c.loop-i.invariant in omega (arith, c.requires.within, c.well_formed)
 
-add-i : tie.Need-overflow-add-i invariant-loop decreases-loop
-add-i c = let i = c.before.before.loop.invariant in omega (arith, c.before.before.before.requires.within, c.before.before.before.well-formed)
+add-i : tie.Need-overflow_add-i invariant-loop decreases-loop
+add-i c = let i = c.loop-i.invariant in omega (arith, c.requires.within, c.well_formed)
 
-loop-again : tie.Need-loop-preserved invariant-loop decreases-loop
+loop-again : tie.Need-loop-i-preserved invariant-loop decreases-loop
 loop-again c =
-    let l = c.before.before.loop in
-    let s = c.before.before.before in
+    let l = c.loop-i in
+    let s = c in
     let f = fits c in
     let g = tenfold_fits _ (here c) in
-    let h = c.before.loop-test.true in
+    let h = c.loop-i-test.true in
     let room : s.args.to ≤ length l.widths = omega (arith, s.requires.within) in
     simp to_z-of_z (record {
       above = omega arith;
@@ -71,16 +71,16 @@ loop-again c =
 
 returns : tie.Need-returns invariant-loop decreases-loop
 returns c =
-    let l = c.before.loop in
-    let s = c.before.before in
-    let e : l.i ≡ s.args.to = omega (arith, c.loop-test.false) in
+    let l = c.loop-i in
+    let s = c in
+    let e : l.i ≡ s.args.to = omega (arith, c.loop-i-test.false) in
     sym
     (l.invariant.left
     ∙ ap (λ (i : ℕ). sets l.widths i (from_hundredths (slice i s.args.to l.widths))) e
     ∙ scale_end l.widths s.args.to)
 
-pub scale-spec : {M : Type 1} → statement M
-scale-spec =
-    tie.close (tie.spec invariant-loop decreases-loop loop-holds mul-w (λ c. omega (arith, c.before.before.requires.within))
-    (λ c. let f = fits c in simp to_z-of_z (tenfold_fits _ (here c))) mul-t7 (λ c. omega (arith, c.before.before.before.requires.within))
-    add-i (λ c. omega (arith, c.before.loop-test.true)) loop-again (λ c. c.before.loop.invariant.kept) returns)
+pub scale_spec : {M : Type 1} → statement M
+scale_spec =
+    tie.close (tie.spec invariant-loop decreases-loop loop-holds mul-w (λ c. omega (arith, c.requires.within))
+    (λ c. let f = fits c in simp to_z-of_z (tenfold_fits _ (here c))) mul-t7 (λ c. omega (arith, c.requires.within))
+    add-i (λ c. omega (arith, c.loop-i-test.true)) loop-again (λ c. c.loop-i.invariant.kept) returns)

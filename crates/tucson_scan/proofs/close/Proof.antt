@@ -1,6 +1,5 @@
 -- Each return is one of the cases of a series' last line.
 use borrow.Author.Rules.{rules}
-use borrow.Author.Tests.{not-true, not-false}
 use mathlib.Core.Bool.{true, ◌&&◌, ◌||◌, not}
 use native.Mathlib.Omega.{arith}
 use mathlib.Core.Path.{◌≡◌, refl, sym, ◌∙◌, ap₂}
@@ -19,8 +18,8 @@ module _ (c : tie.After-follows) where
 
   year-test : c.follows.result ≡ (not s.args.begun || (same s.args.year s.args.next && eqb (year_in_decade s.args.year) 0))
   year-test =
-      let f = s.fits.year in
-      let g = s.fits.next in
+      let f = s.ranges.year in
+      let g = s.ranges.next in
       simp to_z-of_z at c.follows.ensures
 
 -- the test for the one closing
@@ -32,7 +31,7 @@ module _ (c : tie.After-same) where
   follows = sym (year-test f) ∙ c.if-not-follows.false
 
   thousandths-test : c.same.result ≡ same (s f).args.last thousandths
-  thousandths-test = let g = (s f).fits.last in simp to_z-of_z at c.same.ensures
+  thousandths-test = let g = (s f).ranges.last in simp to_z-of_z at c.same.ensures
 
 -- and for the other
 module _ (c : tie.After-both) where
@@ -41,7 +40,7 @@ module _ (c : tie.After-both) where
 
   hundredths-test : c.both.result ≡ (same (s (f t)).args.last hundredths && ((s (f t)).args.small && (s (f t)).args.front))
   hundredths-test =
-      let g = (s (f t)).fits.last in
+      let g = (s (f t)).ranges.last in
       c.both.ensures ∙ ap₂ ◌&&◌ (simp to_z-of_z at c.same-2.ensures) c.both-all.ensures
 
 returns : tie.Need-returns-then-not-follows

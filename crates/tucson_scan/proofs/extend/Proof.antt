@@ -1,6 +1,5 @@
 -- Each return is one of the cases of a line whose series goes on.
 use borrow.Author.Rules.{rules}
-use borrow.Author.Tests.{not-true, not-false}
 use mathlib.Core.Bool.{Bool, true, ◌&&◌, ◌||◌, not}
 use mathlib.Core.Path.{◌≡◌, refl, sym, ◌∙◌, ap}
 use native.Mathlib.Omega.{arith}
@@ -27,8 +26,8 @@ module _ (c : tie.After-follows) where
 
   year-test : c.follows.result ≡ (not s.args.begun || (same s.args.year s.args.next && eqb (year_in_decade s.args.year) 0))
   year-test =
-      let f = s.fits.year in
-      let g = s.fits.next in
+      let f = s.ranges.year in
+      let g = s.ranges.next in
       simp to_z-of_z at c.follows.ensures
 
   is-width : is_width s.args.last ≡ true
@@ -47,13 +46,13 @@ module _ (c : tie.After-both-all) where
 
   sum_is : to_z w32 (of_z w32 (to_z w32 (of_z w32 e.args.year) +ℤ to_z w32 e.args.n)) ≡ e.args.year +ℤ pos e.args.n
   sum_is =
-      let f = e.fits.year in
+      let f = e.ranges.year in
       let g = sum_fits in
       rw count (simp to_z-of_z)
 
   all_is : c.both-all.result ≡ (e.args.small && e.args.front && le_z e.args.last (pos hundredths_limit))
   all_is =
-      let f = e.fits.last in
+      let f = e.ranges.last in
       (simp to_z-of_z at c.both-all.ensures) ∙ ap (λ (b : Bool). b && le_z e.args.last (pos hundredths_limit)) c.both-before.ensures
 
 returns : tie.Need-returns-then-not-is_width

@@ -1,6 +1,5 @@
 -- Where a series is begun, two tests of the year.
 use borrow.Author.Rules.{rules}
-use borrow.Author.Tests.{not-false}
 use mathlib.Core.Bool.{Bool, ◌&&◌, ◌||◌, not}
 use mathlib.Core.Path.{◌≡◌, sym, ◌∙◌, ap, ap₂}
 use lib.Dec.{eqb}
@@ -19,7 +18,7 @@ returns-2 c =
     let d : c.same.result ≡ same s.args.year s.args.next = simp to_z-of_z at c.same.ensures in
     c.both.ensures ∙ ap₂ (λ (a : Bool) (k : ℕ). a && eqb k 0) d y
     ∙ sym (ap (λ (b : Bool). not b || (same s.args.year s.args.next && eqb (year_in_decade s.args.year) 0))
-    (not-false s.args.begun c.if-not-begun.false))
+    (c.if-not-begun.false))
 
 pub follows_spec : {M : Type 1} → statement M
 follows_spec = tie.close (tie.spec (λ c. search rules) (λ c κs. search rules) (λ c κs. search rules) (λ c κs. search rules) returns-2)

@@ -68,10 +68,10 @@ module _ (c : tie.In-Good) where
   is_line : IsLine (good_line true t) year n front last
   is_line = line_some (good_line true t) year n front last told
 
-  good : GoodLine text from end is_line.line-line
-  good = good-line text from end s.requires is_line.line-line is_line.is
+  good : GoodLine text from end is_line.line
+  good = good-line text from end s.requires is_line.line is_line.is
 
-  count : length is_line.line-line.fields ≡ n
+  count : length is_line.line.fields ≡ n
   count = (says is_line.told).count_is
 
 goes-on-requires : tie.Need-goes_on-requires
@@ -106,7 +106,7 @@ returns c =
     let g = c in
     let f = year-fits (k g.before.before) in
     let h = last_fits (k g.before.before) in
-    let y = (s (k g.before.before)).fits.next in
+    let y = (s (k g.before.before)).ranges.next in
     let r = c.extend.result in
     let passed = simp to_z-of_z at c.extend.ensures in
     record {
@@ -125,7 +125,7 @@ returns-3 c =
     let g = c.before.before in
     let f = year-fits (k g) in
     let h = last_fits (k g) in
-    let y = (s (k g)).fits.next in
+    let y = (s (k g)).ranges.next in
     let r = c.close.result in
     let passed = simp to_z-of_z at c.close.ensures in
     record {

@@ -54,7 +54,7 @@ module _ (c : tie.After-pass-passed invariant-loop decreases-loop) where
   abbrev l : tie.At-loop-from invariant-loop decreases-loop
   l = f.before.before
 
-  abbrev inv : Scans (text f) (from f) l.loop-from.lines l.loop-from.series l.loop-from.total l.loop-from.begun (to_z w32 l.loop-from.next) l.loop-from.small
+  abbrev inv : Scans (text f) (from f) l.loop-from.lines l.loop-from.series l.loop-from.total l.loop-from.begun (to_z w32 l.loop-from.next-bits) l.loop-from.small
   inv = l.loop-from.invariant
 
   abbrev line : Text
@@ -110,8 +110,8 @@ pub scan_spec : {M : Type 1} → statement M
 scan_spec =
     tie.close (tie.spec invariant-loop decreases-loop (λ c. scans-start c.args.text.now _)
     (λ c κs. let i = c.loop-from.invariant in omega (arith, i.within)) (λ c κs. line_end c) (λ c. search rules) (λ c κs. search rules)
-    returns (λ c. search rules) (λ c κs. search rules) (λ c. omega (arith, (scans c).few_series, (scans c).within, (s (f (p c))).good))
-    (λ c. omega (arith, (scans c).few_widths, (scans c).within, (s (f (p c))).good)) (λ c. omega (arith, (scans c).within, (s (f (p c))).good))
-    (λ c. omega (arith, (scans c).few_lines, (scans c).within, (s (f (p c))).good))
+    returns (λ c. search rules) (λ c κs. search rules) (λ c. omega (arith, (scans c).few_series, (scans c).within, (s (f (p c))).well_formed))
+    (λ c. omega (arith, (scans c).few_widths, (scans c).within, (s (f (p c))).well_formed)) (λ c. omega (arith, (scans c).within, (s (f (p c))).well_formed))
+    (λ c. omega (arith, (scans c).few_lines, (scans c).within, (s (f (p c))).well_formed))
     (λ c. let e = (f (p c)).loop-from-test.true in omega (arith, (ahead c).longer, (ahead c).ended)) (λ c. scans c)
     (λ c. scans_end c.loop-from.invariant c.loop-from-test.false))

@@ -17,19 +17,19 @@ record Copying (text : Text) (from to : ℕ) (bytes₀ bytes : Text) (i n : ℕ)
   size : length bytes ≡ length bytes₀
   are : take n bytes ≡ slice from i text
 
-abbrev invariant-loop : tie.invariant-loop
+abbrev invariant-loop : tie.invariant-loop-i
 invariant-loop text from to bytes₀ i₀ n₀ bytes i n = Copying text from to bytes₀ bytes i n
 
-abbrev decreases-loop : tie.decreases-loop
+abbrev decreases-loop : tie.decreases-loop-i
 decreases-loop text from to bytes₀ i₀ n₀ bytes i n = to - i
 
-loop-holds : tie.Need-loop-init invariant-loop decreases-loop
+loop-holds : tie.Need-loop-i-init invariant-loop decreases-loop
 loop-holds c = record { at = omega arith; within = c.requires.range.ordered; size = refl; are = sym (slice_empty c.args.from c.args.text.now) }
 
-loop-again : tie.Need-loop-preserved invariant-loop decreases-loop
+loop-again : tie.Need-loop-i-preserved invariant-loop decreases-loop
 loop-again c =
-    let l = c.before.before.loop in
-    let s = c.before.before.before in
+    let l = c.loop-i in
+    let s = c in
     let text = s.args.text.now in
     let byte = get_or text l.i 0 in
     record {
@@ -42,13 +42,13 @@ loop-again c =
           ∙ sym (slice_snoc s.args.from l.i text (omega (arith, l.invariant.at)) (omega (arith, s.requires.range.within))));
     }
 
-same_length : tie.Need-same-length invariant-loop decreases-loop
-same_length c = c.before.loop.invariant.size
+same_length : tie.Need-shape_of-bytes invariant-loop decreases-loop
+same_length c = c.loop-i.invariant.size
 
 returns : tie.Need-returns invariant-loop decreases-loop
 returns c =
-    let l = c.before.loop in
-    let s = c.before.before in
+    let l = c.loop-i in
+    let s = c in
     let e : l.i ≡ s.args.to = omega (arith, l.invariant.within) in
     let k : s.args.to - s.args.from ≡ l.n = omega (arith, l.invariant.at, l.invariant.within) in
     ap (λ (n : ℕ). take n l.bytes) k ∙ l.invariant.are ∙ ap (λ (n : ℕ). slice s.args.from n s.args.text.now) e
@@ -60,9 +60,9 @@ copy_spec =
     invariant-loop
     decreases-loop
     loop-holds
-    (λ c. omega (arith, c.before.before.before.requires.range.within))
-    (λ c. let l = c.before.before.loop in omega (arith, l.invariant.at, l.invariant.size, c.before.before.before.requires.room))
-    (λ c. let l = c.before.before.loop in omega (arith, l.invariant.at))
+    (λ c. omega (arith, c.requires.range.within))
+    (λ c. let l = c.loop-i in omega (arith, l.invariant.at, l.invariant.size, c.requires.room))
+    (λ c. let l = c.loop-i in omega (arith, l.invariant.at))
     (λ c. omega arith)
     (λ c. omega arith)
     loop-again

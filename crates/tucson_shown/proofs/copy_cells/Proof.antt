@@ -21,14 +21,14 @@ front text bytes from to k h few e =
     ∙ take_slice (to - from) from (from + k) text (omega (arith, few))
     ∙ ap (λ (m : ℕ). slice from m text) end
 
-returns : tie.Need-returns
+returns : tie.Need-returns-then-text-from-ge-CELLS
 returns c =
-    let k = c.before.before in
-    let s = k.before.before.before.before.before in
+    let k = c in
+    let s = k in
     front s.args.text.now _ s.args.from s.args.to 96 s.requires.0.range.ordered (omega (arith, s.requires.0.room, s.requires.1)) k.copy.ensures
 
-pub copy-cells-spec : {M : Type 1} → statement M
-copy-cells-spec =
+pub copy_cells_spec : {M : Type 1} → statement M
+copy_cells_spec =
     tie.close
     (tie.spec
     (λ c. search rules)

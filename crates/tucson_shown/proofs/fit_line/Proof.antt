@@ -25,71 +25,71 @@ module _ (s : tie.Start) where
   count = s.args.count
 
   are : take count bytes ≡ shown_fields raw
-  are = fields_are raw bytes s.args.line.now count s.args.site s.pre.size s.pre.room s.pre.fields
+  are = fields_are raw bytes s.args.line.now count s.args.site s.requires.size s.requires.room s.requires.fields
 
-returns : tie.Need-returns
+returns : tie.Need-returns-then-is_strict
 returns c =
-    let m = c.before.before in
-    let k = m.before.before.before in
-    let s = k.before.before.before.before in
-    strict_told (raw s) (bytes s) m.mask-bytes.new.1.1.0 (count s) s.args.site s.requires.size (m.mask-bytes.auto.1.1.0 ∙ s.requires.room) s.requires.fields
-    (sym k.is-strict.ensures ∙ m.before.before.if1.true) m.mask-bytes.ensures
+    let m = c in
+    let k = m in
+    let s = k in
+    strict_told (raw s.before.before.before.before.before.before.before.before.before) (bytes s.before.before.before.before.before.before.before.before.before) m.mask_bytes.new.line (count s.before.before.before.before.before.before.before.before.before) s.args.site s.requires.size (m.mask_bytes.auto.line ∙ s.requires.room) s.requires.fields
+    (sym k.is_strict.ensures ∙ m.if-is_strict.true) m.mask_bytes.ensures
 
 -- no strict line as it is
-module _ (c : tie.After-any-high) where
+module _ (c : tie.After-any_high) where
   abbrev s1 : tie.Start
   s1 = c.before.before.before.before.before.before
 
   no_strict : is_strict (shown_fields (raw s1)) ≡ false
-  no_strict = ap is_strict (sym (are s1)) ∙ sym c.before.before.is-strict.ensures ∙ c.before.if1.false
+  no_strict = ap is_strict (sym (are s1)) ∙ sym c.is_strict.ensures ∙ c.if-is_strict.false
 
-  high : any_high (shown_fields (raw s1)) ≡ c.any-high.result
-  high = ap any_high (sym (are s1)) ∙ sym c.any-high.ensures
+  high : any_high (shown_fields (raw s1)) ≡ c.any_high.result
+  high = ap any_high (sym (are s1)) ∙ sym c.any_high.ensures
 
-returns-2 : tie.Need-returns-2
-returns-2 c = let k = c.before in told_malformed (raw (s1 k)) (no_strict k) (high k ∙ not-true _ c.if2.true)
+returns-2 : tie.Need-returns-then-not-any_high
+returns-2 c = let k = c in told_malformed (raw (s1 k.before)) (no_strict k.before) (high k.before ∙ c.if-not-any_high.true)
 
-returns-3 : tie.Need-returns-3
+returns-3 : tie.Need-returns-then-has_tab
 returns-3 c =
-    let t = c.before in
-    let k = t.before.before in
-    told_tabbed (raw (s1 k)) (high k ∙ not-false _ t.before.if2.false) (sym t.has-tab.ensures ∙ c.if3.true)
+    let t = c in
+    let k = t in
+    told_tabbed (raw (s1 k.before.before.before)) (high k.before.before.before ∙ t.if-not-any_high.false) (sym t.has_tab.ensures ∙ c.if-has_tab.true)
 
 -- both forms are tried
-module _ (c : tie.After-masked) where
-  abbrev t3 : tie.After-has-tab
+module _ (c : tie.After-masked-n) where
+  abbrev t3 : tie.After-has_tab
   t3 = c.before.before.before
 
-  abbrev k3 : tie.After-any-high
+  abbrev k3 : tie.After-any_high
   k3 = t3.before.before
 
   abbrev s3 : tie.Start
   s3 = s1 k3
 
   is-high : any_high (shown_fields (raw s3)) ≡ true
-  is-high = high k3 ∙ not-false _ t3.before.if2.left
+  is-high = high k3 ∙ t3.if-not-any_high.false
 
   abbrev n : ℕ
-  n = c.masked.result
+  n = c.masked-n.result
 
   abbrev line : Text
-  line = c.masked.new.1.1.0
+  line = c.masked-n.new.line
 
   forms : (b : Bool) → eqb n 0 ≡ b → masked (shown_fields (raw s3)) ≡ cond b none (some (take n line))
-  forms b e = ap masked (sym (are s3)) ∙ c.masked.ensures.is ∙ ap (λ (x : Bool). cond x none (some (take n line))) e
+  forms b e = ap masked (sym (are s3)) ∙ c.masked-n.ensures.is ∙ ap (λ (x : Bool). cond x none (some (take n line))) e
 
-returns-4 : tie.Need-returns-4
-returns-4 c = let m = c.before.before.before in told_unmasked (raw (s3 m)) (is-high m) (forms m true (eq-eqb (n m) 0 c.if4.true))
+returns-4 : tie.Need-returns-then-n-eq-NO_LINE
+returns-4 c = let m = c in told_unmasked (raw (s3 m.before.before.before)) (is-high m.before.before.before) (forms m.before.before.before true (eq-eqb (n m.before.before.before) 0 c.if-n-eq-NO_LINE.true))
 
-returns-5 : tie.Need-returns-5
+returns-5 : tie.Need-returns
 returns-5 c =
-    let m = c.before.before.before in
-    let s = s3 m in
-    line-told (raw s) (bytes s) (line m) (count s) s.args.site s.pre.size (m.masked.auto.1.1.0 ∙ s.pre.room) s.pre.fields (n m) m.masked.ensures.few
-    (told_masked (raw s) (is-high m) (take (n m) (line m)) (sym (t3 m).has-tab.ensures ∙ m.before.before.if3.false) (forms m false (ne_eqb (n m) 0 c.if4.false)))
+    let m = c in
+    let s = s3 m.before.before.before in
+    line-told (raw s) (bytes s) (line m.before.before.before) (count s) s.args.site s.requires.size (m.masked-n.auto.line ∙ s.requires.room) s.requires.fields (n m.before.before.before) m.masked-n.ensures.few
+    (told_masked (raw s) (is-high m.before.before.before) (take (n m.before.before.before) (line m.before.before.before)) (sym (t3 m.before.before.before).has_tab.ensures ∙ m.if-has_tab.false) (forms m.before.before.before false (ne_eqb (n m.before.before.before) 0 c.if-n-eq-NO_LINE.false)))
 
-pub fit-line-spec : {M : Type 1} → statement M
-fit-line-spec =
+pub fit_line_spec : {M : Type 1} → statement M
+fit_line_spec =
     tie.close
     (tie.spec
     (λ c κs. search rules)

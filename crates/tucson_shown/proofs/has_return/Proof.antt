@@ -5,7 +5,7 @@ use Rattle.tucson_shown.proofs.has_return.Statement.{statement}
 use Rattle.tucson_shown.proofs.has_return.Tie as tie
 
 returns : tie.Need-returns
-returns c = sym c.line-stop.ensures.returned
+returns c = sym c.line_stop.ensures.returned
 
-pub has-return-spec : {M : Type 1} → statement M
-has-return-spec = tie.close (tie.spec (λ c κs. search rules) returns)
+pub has_return_spec : {M : Type 1} → statement M
+has_return_spec = tie.close (tie.spec (λ c κs. search rules) returns)

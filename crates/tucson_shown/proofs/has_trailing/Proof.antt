@@ -7,19 +7,19 @@ use Rattle.tucson_shown.proofs.Fields.{trailing}
 use Rattle.tucson_shown.proofs.has_trailing.Statement.{statement}
 use Rattle.tucson_shown.proofs.has_trailing.Tie as tie
 
-shown-end-requires : tie.Need-shown-end-requires
+shown-end-requires : tie.Need-shown_end-requires
 shown-end-requires c κs =
-    let s = c.before.before in
-    let told = c.line-stop.ensures in
+    let s = c in
+    let told = c.line_stop-stop.ensures in
     record { ordered = told.after; within = omega (arith, told.before, end_within s.args.text.now s.args.from s.args.end s.requires) }
 
 returns : tie.Need-returns
 returns c =
-    let k = c.before in
-    let s = k.before.before in
-    let stop = k.line-stop.ensures in
-    sym (trailing s.args.text.now s.args.from s.args.end k.line-stop.result c.shown-end.result
-    (omega (arith, stop.before, end_within s.args.text.now s.args.from s.args.end s.requires)) stop c.shown-end.ensures)
+    let k = c in
+    let s = k in
+    let stop = k.line_stop-stop.ensures in
+    sym (trailing s.args.text.now s.args.from s.args.end k.line_stop-stop.result c.shown_end.result
+    (omega (arith, stop.before, end_within s.args.text.now s.args.from s.args.end s.requires)) stop c.shown_end.ensures)
 
-pub has-trailing-spec : {M : Type 1} → statement M
-has-trailing-spec = tie.close (tie.spec (λ c κs. search rules) shown-end-requires returns)
+pub has_trailing_spec : {M : Type 1} → statement M
+has_trailing_spec = tie.close (tie.spec (λ c κs. search rules) shown-end-requires returns)

@@ -9,10 +9,10 @@ use Rattle.tucson_shown.proofs.is_blank_line.Tie as tie
 
 returns : tie.Need-returns
 returns c =
-    let s = c.before.before in
-    let told = c.shown-to.ensures in
-    sym (blank-line s.args.text.now s.args.from s.args.end c.shown-to.result
+    let s = c in
+    let told = c.shown_to.ensures in
+    sym (blank-line s.args.text.now s.args.from s.args.end c.shown_to.result
     (omega (arith, told.before, end_within s.args.text.now s.args.from s.args.end s.requires)) told)
 
-pub is-blank-line-spec : {M : Type 1} → statement M
-is-blank-line-spec = tie.close (tie.spec (λ c κs. search rules) returns)
+pub is_blank_line_spec : {M : Type 1} → statement M
+is_blank_line_spec = tie.close (tie.spec (λ c κs. search rules) returns)

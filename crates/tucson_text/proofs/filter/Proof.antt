@@ -25,14 +25,14 @@ held t h = sym (cond_true (outcome_text (read_text t)) (refusal_line 1 0) (le-le
 line-fits : {count size after : ℕ} → count ≤ refusal_line_limit → after ≡ size → size ≡ text_limit → count ≤ after
 line-fits h e l = omega arith
 
-returns : tie.Need-returns
+returns : tie.Need-returns-then-input-gt-TEXT_LIMIT
 returns c =
     let p = c.refusal.ensures in
-    let room = line-fits p.few (ap length p.contents ∙ written_length 0 _ _) c.before.refusal-arg.given.0.1 in
-    prints_as (too_long _ c.before.before.if1.true) room p
+    let room = line-fits p.few (ap length p.contents ∙ written_length 0 _ _) c.refusal-arg-1.given.0.1 in
+    prints_as (too_long _ c.if-input-gt-TEXT_LIMIT.true) room p
 
-returns-2 : tie.Need-returns-2
-returns-2 c = let p = c.rewrite.ensures in prints_as (held _ c.before.before.if1.false) p.few p
+returns-2 : tie.Need-returns
+returns-2 c = let p = c.rewrite.ensures in prints_as (held _ c.if-input-gt-TEXT_LIMIT.false) p.few p
 
-pub filter-spec : {M : Type 1} → statement M
-filter-spec = tie.close (tie.spec (λ c κs. search rules) returns (λ c κs. search rules) returns-2)
+pub filter_spec : {M : Type 1} → statement M
+filter_spec = tie.close (tie.spec (λ c κs. search rules) returns (λ c κs. search rules) returns-2)

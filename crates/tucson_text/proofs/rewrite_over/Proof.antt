@@ -26,7 +26,7 @@ use Rattle.tucson_text.proofs.rewrite_over.Tie as tie
 
 -- ---- what the read call has left
 
-module _ (k : tie.After-read) where
+module _ (k : tie.After-read-series) where
   abbrev start : tie.Start
   start = k.before.before.before.before.before.before
 
@@ -34,7 +34,7 @@ module _ (k : tie.After-read) where
   text = start.args.input.now
 
   short : length text ≤ text_limit
-  short = start.pre
+  short = start.requires
 
   -- the buffers before
   abbrev names : Text
@@ -51,12 +51,12 @@ module _ (k : tie.After-read) where
 
   cells : Cells names years counts widths
   cells =
-      let lent = k.before in
+      let lent = k in
       record {
-        names_are = lent.before.before.before.read-arg.given.0.1;
-        years_are = lent.before.before.read-arg2.given.0.1;
-        counts_are = lent.before.read-arg3.given.0.1;
-        widths_are = lent.read-arg4.given.0.1;
+        names_are = lent.read-arg-1.given.0.1;
+        years_are = lent.read-arg-2-1.given.0.1;
+        counts_are = lent.read-arg-3-1.given.0.1;
+        widths_are = lent.read-arg-4-1.given.0.1;
       }
 
   abbrev end : ReadEnd
@@ -64,20 +64,20 @@ module _ (k : tie.After-read) where
 
   -- and after
   abbrev names-read : Text
-  names-read = k.read.last.1.0
+  names-read = k.read-series.new.names
 
   abbrev years_read : List ℤ
-  years_read = k.read.last.1.1.0
+  years_read = k.read-series.new.years
 
   abbrev counts-read : List ℕ
-  counts-read = k.read.last.1.1.1.0
+  counts-read = k.read-series.new.counts
 
   abbrev widths_read : List ℤ
-  widths_read = k.read.last.1.1.1.1.0
+  widths_read = k.read-series.new.widths
 
   -- a refusal
-  refused : (code place : ℕ) → reply k.read.result ≡ refusal code place → refusal_line code place ≡ outcome_text (read_text text)
-  refused code place e = refused_text text short cells code place (sym k.read.ensures.0 ∙ e)
+  refused : (code place : ℕ) → reply k.read-series.result ≡ refusal code place → refusal_line code place ≡ outcome_text (read_text text)
+  refused code place e = refused_text text short cells code place (sym k.read-series.ensures.0 ∙ e)
 
 -- ---- the lists, where it has been answered with their count
 
@@ -96,58 +96,58 @@ below-limit h = omega arith
 mul_fits : {count : ℕ} → count ≤ series_cells → count * 8 ≤ name_bytes
 mul_fits h = omega arith
 
-module _ (a : tie.After-widths2) where
-  abbrev series : tie.After-series2
-  series = a.before.before.before.before.before.before.before.before.before
+module _ (a : tie.After-widths-in-Count-1) where
+  abbrev series : tie.In-Count
+  series = a.before.before.before.before.before.before.before.before
 
-  abbrev done : tie.After-read
-  done = series.before.before
+  abbrev done : tie.After-read-series
+  done = series.before
 
   abbrev n : ℕ
-  n = series.series2.given.0.0
+  n = series.in-Count.n
 
   answered : (end done).answers ≡ answer n
   unfolding reply
-  answered = sym done.read.ensures.0 ∙ ap reply series.series2.given.1
+  answered = sym done.read-series.ensures.0 ∙ ap reply series.in-Count.is
 
   few : n ≤ series_cells
   few = series-within (text done) (short done) (cells done) answered
 
   few_widths : total (take n (counts-read done)) ≤ width_cells
   few_widths =
-      no_more (ap (λ (ns : List ℕ). total (take n ns)) done.read.ensures.1.1.1.0)
+      no_more (ap (λ (ns : List ℕ). total (take n ns)) done.read-series.ensures.1.1.1.0)
       (widths_within (text done) (short done) (cells done) answered)
 
   names_fit : n * 8 ≤ length (names-read done)
-  names_fit = let named = a.before.before.before.before.before.before in within-names few named.names2.given.0
+  names_fit = let named = a in within-names few named.names-in-Count-1.given
 
   years-fit : n ≤ length (years_read done)
-  years-fit = within few a.before.before.before.before.years2.given.0
+  years-fit = within few a.years-in-Count-1.given
 
   counts_fit : n ≤ length (counts-read done)
-  counts_fit = within few a.before.before.counts2.given.0
+  counts_fit = within few a.counts-in-Count-1.given
 
   widths_fit : (m : ℕ) → m ≡ total (take n (counts-read done)) → m ≤ length (widths_read done)
-  widths_fit m e = within (no_more e few_widths) a.widths2.given.0
+  widths_fit m e = within (no_more e few_widths) a.widths-in-Count-1.given
 
-slice-aggregate-sum : tie.Need-slice-aggregate-sum
-slice-aggregate-sum c = let a = c.before in sym (length-take-le (n a) (counts-read (done a)) (counts_fit a))
+slice-aggregate-sum : tie.Need-slice_bounds-sum-end
+slice-aggregate-sum c = let a = c in sym (length-take-le (n a) (counts-read (done a)) (counts_fit a))
 
-slice-aggregate-write : tie.Need-slice-aggregate-write
-slice-aggregate-write c = let a = c.before.before.before in sym (length-take-le (n a * 8) (names-read (done a)) (names_fit a))
+slice-aggregate-write : tie.Need-slice_bounds-write-end
+slice-aggregate-write c = let a = c in sym (length-take-le (n a.before * 8) (names-read (done a.before)) (names_fit a.before))
 
-slice-aggregate-write-2 : tie.Need-slice-aggregate-write-2
-slice-aggregate-write-2 c = let a = c.before.before.before.before in sym (length-take-le (n a) (years_read (done a)) (years-fit a))
+slice-aggregate-write-2 : tie.Need-slice_bounds-write-end-in-Count
+slice-aggregate-write-2 c = let a = c in sym (length-take-le (n a.before) (years_read (done a.before)) (years-fit a.before))
 
-slice-aggregate-write-3 : tie.Need-slice-aggregate-write-3
+slice-aggregate-write-3 : tie.Need-slice_bounds-write-end-in-Count-2
 slice-aggregate-write-3 c =
-    let a = c.before.before.before.before.before in sym (length-take-le (n a) (counts-read (done a)) (counts_fit a))
+    let a = c in sym (length-take-le (n a.before) (counts-read (done a.before)) (counts_fit a.before))
 
-slice-aggregate-write-4 : tie.Need-slice-aggregate-write-4
+slice-aggregate-write-4 : tie.Need-slice_bounds-write-end-in-Count-3
 slice-aggregate-write-4 c =
-    let s = c.before.before.before.before in
-    let a = s.before.before in
-    sym (length-take-le s.sum.result (widths_read (done a)) (widths_fit a s.sum.result s.sum.ensures))
+    let s = c in
+    let a = s in
+    sym (length-take-le s.sum-widths_read.result (widths_read (done a.before)) (widths_fit a.before s.sum-widths_read.result s.sum-widths_read.ensures))
 
 -- ---- what the function ensures
 
@@ -157,62 +157,62 @@ line-fits h e l = omega arith
 text-fits : {count bytes size after : ℕ} → count ≡ bytes → bytes ≤ text_limit → after ≡ size → size ≡ text_limit → count ≤ after
 text-fits c h e l = omega arith
 
-returns : tie.Need-returns
+returns : tie.Need-returns-in-Refused
 unfolding reply
 returns c =
     let p = c.refusal.ensures in
-    let k = c.before.before.before.before.before in
-    let is = refused k _ _ (ap reply c.before.before.before.series.given.1) in
-    prints_as is (line-fits p.few (ap length p.contents ∙ written_length 0 _ _) c.before.refusal-arg.given.0.1) p
+    let k = c in
+    let is = refused k.before.before.before _ _ (ap reply c.in-Refused.is) in
+    prints_as is (line-fits p.few (ap length p.contents ∙ written_length 0 _ _) c.refusal-arg-1.given.0.1) p
 
 -- the write call's end
-module _ (w : tie.After-write) where
-  abbrev s : tie.After-sum
-  s = w.before.before.before.before.before.before
+module _ (w : tie.After-write-text) where
+  abbrev s : tie.After-sum-widths_read
+  s = w.before.before
 
-  abbrev a : tie.After-widths2
-  a = s.before.before
+  abbrev a : tie.After-widths-in-Count-1
+  a = s.before
 
-  abbrev k : tie.After-read
+  abbrev k : tie.After-read-series
   k = done a
 
   abbrev out : Text
   out = (start k).args.out.now
 
   abbrev m : ℕ
-  m = s.sum.result
+  m = s.sum-widths_read.result
 
   writes :
       write_end (take (n a * name_columns) (names-read k)) (take (n a) (years_read k)) (take (n a) (counts-read k)) (take m (widths_read k)) out
       ≡ record { answers = answer (length (text k)); text = written 0 (outcome_text (read_text (text k))) out }
   writes =
-      let r = k.read.ensures.1 in
-      writes-whole (text k) (short k) (cells k) (answered a) out w.before.write-arg5.given.0.1
-      r.0 r.1.0 r.1.1.0 r.1.1.1 s.sum.ensures
+      let r = k.read-series.ensures.1 in
+      writes-whole (text k) (short k) (cells k) (answered a) out w.write-arg-1.given.0.1
+      r.0 r.1.0 r.1.1.0 r.1.1.1 s.sum-widths_read.ensures
 
-returns-2 : tie.Need-returns-2
+returns-2 : tie.Need-returns-in-Refused-text
 unfolding reply
 returns-2 c =
-    let w = c.before.before.before.before.before in
-    absurd (answer_not_refusal (w.write.ensures.0 ∙ ap (λ (e : WriteEnd). e.answers) (writes w)) (ap reply c.before.before.before.text.given.1))
+    let w = c in
+    absurd (answer_not_refusal (w.write-text.ensures.0 ∙ ap (λ (e : WriteEnd). e.answers) (writes w.before.before.before)) (ap reply c.in-Refused-text.is))
 
-returns-3 : tie.Need-returns-3
+returns-3 : tie.Need-returns-in-Count-text
 unfolding reply
 returns-3 c =
-    let w = c.before.before.before in
-    let k = k w in
-    let count = answer_unique (ap reply c.before.text2.given.1) (w.write.ensures.0 ∙ ap (λ (e : WriteEnd). e.answers) (writes w)) in
-    let size = text-length (text k) (short k) (cells k) (answered (a w)) in
-    let contents = w.write.ensures.1 ∙ ap (λ (e : WriteEnd). e.text) (writes w) in
+    let w = c in
+    let k = k w.before in
+    let count = answer_unique (ap reply c.in-Count-text.is) (w.write-text.ensures.0 ∙ ap (λ (e : WriteEnd). e.answers) (writes w.before)) in
+    let size = text-length (text k) (short k) (cells k) (answered (a w.before)) in
+    let contents = w.write-text.ensures.1 ∙ ap (λ (e : WriteEnd). e.text) (writes w.before) in
     record {
       count_is = count ∙ sym size;
       contents = contents;
-      few = text-fits count (short k) (ap length contents ∙ written_length 0 _ _) w.before.write-arg5.given.0.1;
+      few = text-fits count (short k) (ap length contents ∙ written_length 0 _ _) w.write-arg-1.given.0.1;
     }
 
-pub rewrite-over-spec : {M : Type 1} → statement M
-rewrite-over-spec =
-    tie.close (tie.spec (λ c κs. tt) (λ c. c.match.keys1) (λ c κs. tt) (λ c. c.match.keys2)
-    (λ c. let h = mul_fits (few c) in omega (arith, h)) slice-aggregate-sum (λ c κs. below-limit (few_widths c.before))
+pub rewrite_over_spec : {M : Type 1} → statement M
+rewrite_over_spec =
+    tie.close (tie.spec (λ c κs. tt) (λ c. c.in-Refused-1.keys1) (λ c κs. tt) (λ c. c.in-Count-1.keys2)
+    (λ c. let h = mul_fits (few c) in omega (arith, h)) slice-aggregate-sum (λ c κs. below-limit (few_widths c))
     slice-aggregate-write slice-aggregate-write-2 slice-aggregate-write-3 slice-aggregate-write-4 (λ c κs. tt)
-    (λ c. c.match2.keys1) (λ c κs. tt) (λ c. c.match2.keys2) returns returns-2 returns-3)
+    (λ c. c.in-Refused-text-1.keys1) (λ c κs. tt) (λ c. c.in-Count-text-1.keys2) returns returns-2 returns-3)

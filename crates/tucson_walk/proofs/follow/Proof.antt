@@ -17,20 +17,20 @@ use Rattle.tucson_walk.proofs.NextLines.{told_stands, none-behind, not_refused, 
 use Rattle.tucson_walk.proofs.follow.Statement.{statement}
 use Rattle.tucson_walk.proofs.follow.Tie as tie
 
-returns : tie.Need-returns
-returns c = let d = c.before in nothing-named d.before.before.before.requires.within (d.differs.ensures c.if1.true)
+returns : tie.Need-returns-then-differs
+returns c = let d = c in nothing-named d.requires.within (d.differs.ensures c.if-differs.true)
 
-returns-2 : tie.Need-returns-2
+returns-2 : tie.Need-returns-then-at-text
 returns-2 c =
-    let s = c.before.skip-blank.ensures.skipped in
-    nothing-follows s.passed.within (λ h i k ks b. none-behind s b c.if2.true)
+    let s = c.skip_blank-unblank.ensures.skipped in
+    nothing-follows s.passed.within (λ h i k ks b. none-behind s b c.if-at-text.true)
 
 -- a line that is not blank
-module _ (c : tie.After-strict-line) where
-  abbrev e : tie.Else2
+module _ (c : tie.After-strict_line-strict) where
+  abbrev e : tie.Else-at-text
   e = c.before.before.before
 
-  abbrev b : tie.After-skip-blank
+  abbrev b : tie.After-skip_blank-unblank
   b = e.before
 
   abbrev begun : tie.Start
@@ -40,67 +40,67 @@ module _ (c : tie.After-strict-line) where
   text = begun.args.text.now
 
   abbrev at : ℕ
-  at = b.skip-blank.result.at
+  at = b.skip_blank-unblank.result.at
 
   abbrev end : ℕ
-  end = b.skip-blank.result.end
+  end = b.skip_blank-unblank.result.end
 
   skipped : Skipped text begun.args.past at
-  skipped = b.skip-blank.ensures.skipped
+  skipped = b.skip_blank-unblank.ensures.skipped
 
   more : at < length text
-  more = e.if2.left
+  more = e.if-at-text.false
 
   line_end : LineEnd text at end
-  line_end = b.skip-blank.ensures.ends more
+  line_end = b.skip_blank-unblank.ensures.ends more
 
   sizes : (at ≤ end) × (end ≤ length text)
   sizes = end_within text at (end) line_end
 
   abbrev bytes : Text
-  bytes = c.strict-line.new.1.1.1.1.0
+  bytes = c.strict_line-strict.new.line
 
   abbrev shown : Text
-  shown = c.strict-line.new.1.1.1.0
+  shown = c.strict_line-strict.new.bytes
 
-  told : {r : Strict} → c.strict-line.result ≡ r → StrictTold (slice at (end + 1) text) r shown bytes
-  told e = subst (λ (r : Strict). StrictTold (slice at (end + 1) text) r shown bytes) e c.strict-line.ensures
+  told : {r : Strict} → c.strict_line-strict.result ≡ r → StrictTold (slice at (end + 1) text) r shown bytes
+  told e = subst (λ (r : Strict). StrictTold (slice at (end + 1) text) r shown bytes) e c.strict_line-strict.ensures
 
-returns-3 : tie.Need-returns-3
+returns-3 : tie.Need-returns-in-Malformed
 returns-3 c =
-    let l = c.before.before in
-    nothing-follows (skipped l).passed.within (λ h i k ks x. not_refused (skipped l) x (line_end l) (more l) 11 (told l c.enum_told.given.1))
+    let l = c in
+    nothing-follows (skipped l.before).passed.within (λ h i k ks x. not_refused (skipped l.before) x (line_end l.before) (more l.before) 11 (told l.before c.in-Malformed.is))
 
-returns-4 : tie.Need-returns-4
+returns-4 : tie.Need-returns-in-NotAscii
 returns-4 c =
-    let l = c.before.before in
-    nothing-follows (skipped l).passed.within (λ h i k ks x. not_refused (skipped l) x (line_end l) (more l) 22 (told l c.enum-told2.given.1))
+    let l = c in
+    nothing-follows (skipped l.before).passed.within (λ h i k ks x. not_refused (skipped l.before) x (line_end l.before) (more l.before) 22 (told l.before c.in-NotAscii.is))
 
-returns-5 : tie.Need-returns-5
+returns-5 : tie.Need-returns-in-Line
 returns-5 c =
-    let l = c.before.before.before.before.before.before in
-    let t = told l c.before.before.before.before.strict.given.1 in
+    let l = c in
+    let t = told l.before.before.before.before c.in-Line.is in
     record {
-      within = omega (arith, sizes l);
-      further = λ e. omega (arith, sizes l, (skipped l).passed.after);
+      within = omega (arith, sizes l.before.before.before.before);
+      further = λ e. omega (arith, sizes l.before.before.before.before, (skipped l.before.before.before.before).passed.after);
       stands = λ e. told_stands t;
-      told = λ h i k ks x name. next-line (skipped l) x (line_end l) (more l) (begun l).args.line.now t name c.same_name.result c.same_name.ensures;
+      told = λ h i k ks x name. next-line (skipped l.before.before.before.before) x (line_end l.before.before.before.before) (more l.before.before.before.before) (begun l.before.before.before.before).args.line.now t name c.same_name-same.result c.same_name-same.ensures;
     }
 
-pub follow-spec : {M : Type 1} → statement M
-follow-spec =
+pub follow_spec : {M : Type 1} → statement M
+follow_spec =
     tie.close
     (tie.spec
     (λ c κs. search rules)
     returns
     (λ c κs. search rules)
     returns-2
-    (λ c κs. let e = c.before.before in e.before.skip-blank.ensures.ends e.if2.false)
+    (λ c κs. let e = c in e.skip_blank-unblank.ensures.ends e.if-at-text.false)
     (λ c. search rules)
     (λ c. search rules)
     (λ c. search rules)
     (λ c κs. search rules)
-    (λ c. let l = c.before.before.before.before.before.before in omega (arith, sizes l, (begun l).well-formed))
+    (λ c. let l = c in omega (arith, sizes l.before.before.before.before, (begun l.before.before.before.before).well_formed))
     returns-3
     returns-4
     returns-5)

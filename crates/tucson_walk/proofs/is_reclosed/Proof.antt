@@ -13,10 +13,10 @@ use Rattle.tucson_walk.proofs.is_reclosed.Tie as tie
 
 returns : tie.Need-returns
 returns c =
-    let a = c.before.before.before.args in
-    let f : SFits w32 a.closing = c.before.before.before.ranges.closing in
-    let z : c.before.before.same.result ≡ same a.closing unknown_unit = simp to_z-of_z at c.before.before.same.ensures in
-    c.both2.ensures ∙ ap (λ (b : Bool). a.last && b) (c.before.both.ensures ∙ ap (λ (b : Bool). b && not (eqb a.unit 0)) z)
+    let a = c.args in
+    let f : SFits w32 a.closing = c.ranges.closing in
+    let z : c.same-unknown.result ≡ same a.closing unknown_unit = simp to_z-of_z at c.same-unknown.ensures in
+    c.both-2.ensures ∙ ap (λ (b : Bool). a.last && b) (c.both.ensures ∙ ap (λ (b : Bool). b && not (eqb a.unit 0)) z)
 
-pub is-reclosed-spec : {M : Type 1} → statement M
-is-reclosed-spec = tie.close (tie.spec (λ c κs. search rules) (λ c κs. search rules) (λ c κs. search rules) returns)
+pub is_reclosed_spec : {M : Type 1} → statement M
+is_reclosed_spec = tie.close (tie.spec (λ c κs. search rules) (λ c κs. search rules) (λ c κs. search rules) returns)

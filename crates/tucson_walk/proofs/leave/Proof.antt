@@ -11,14 +11,14 @@ use Rattle.tucson_walk.specs.declared.Series.{Series}
 use Rattle.tucson_walk.proofs.leave.Statement.{statement}
 use Rattle.tucson_walk.proofs.leave.Tie as tie
 
-returns : tie.Need-returns
-returns c n e = absurd (omega (arith, e, c.if1.true))
+returns : tie.Need-returns-then-ahead-eq0
+returns c n e = absurd (omega (arith, e, c.if-ahead-eq0.true))
 
-returns-2 : tie.Need-returns-2
+returns-2 : tie.Need-returns
 returns-2 c n e =
-    let s = c.before.before.before.before.before.before.args.s in
-    let f : SFits w32 s.first = record { sfits = c.struct-told2.given.1.1.0.1 } in
-    let g : SFits w32 s.ahead.closing = record { sfits = c.before.struct_told.given.1.0.1 } in
+    let s = c.args.s in
+    let f : SFits w32 s.first = record { sfits = c.struct_told-2-1.given.1.1.0.1 } in
+    let g : SFits w32 s.ahead.closing = record { sfits = c.struct_told-1.given.1.0.1 } in
     let z : s.ahead.count - 1 ≡ n = omega (arith, e) in
     simp to_z-of_z (ap (λ (m : ℕ). record { ahead = record { count = m; closing = s.ahead.closing; fields = s.ahead.fields }; known = s.known; first = s.first }) z)
 

@@ -10,15 +10,15 @@ use Rattle.tucson_walk.proofs.LineMarks.{blank_notes, header-notes, marks_then}
 use Rattle.tucson_walk.proofs.put_other.Statement.{statement}
 use Rattle.tucson_walk.proofs.put_other.Tie as tie
 
-returns : tie.Need-returns
+returns : tie.Need-returns-then-is_blank_line
 returns c =
-    let n = c.before.before in
-    let m = n.before.before.before.before in
-    let b = m.before.before.before in
-    let r = b.before in
-    let a = r.before.before.before.args in
-    marks_then 6 (ap (λ (x : Marks). marked (blanked x) (6 ∷ [])) r.marks-of.ensures ∙ blank_notes a.early _ (sym b.is-blank-line.ensures ∙ m.before.before.if1.true))
-    m.put-marks.ensures n.put-note.ensures
+    let n = c in
+    let m = n in
+    let b = m in
+    let r = b in
+    let a = r.args in
+    marks_then 6 (ap (λ (x : Marks). marked (blanked x) (6 ∷ [])) r.marks_of-marks.ensures ∙ blank_notes a.early _ (sym b.is_blank_line.ensures ∙ m.if-is_blank_line.true))
+    m.put_marks-next.ensures n.put_note.ensures
   where
     blanked : Marks → Marks
     blanked x = record {
@@ -32,18 +32,18 @@ returns c =
       reclosed = false;
     }
 
-returns-2 : tie.Need-returns-2
+returns-2 : tie.Need-returns
 returns-2 c =
-    let n = c.before.before in
-    let m = n.before.before.before.before in
-    let b = m.before.before.before in
-    let r = b.before in
-    let a = r.before.before.before.args in
-    marks_then 9 (ap (λ (x : Marks). marked x (9 ∷ [])) r.marks-of.ensures ∙ header-notes a.early _ (sym b.is-blank-line.ensures ∙ m.before.before.if1.false))
-    m.put-marks2.ensures n.put-note2.ensures
+    let n = c in
+    let m = n in
+    let b = m in
+    let r = b in
+    let a = r.args in
+    marks_then 9 (ap (λ (x : Marks). marked x (9 ∷ [])) r.marks_of-marks.ensures ∙ header-notes a.early _ (sym b.is_blank_line.ensures ∙ m.if-is_blank_line.false))
+    m.put_marks-behind.ensures n.put_note-2.ensures
 
-pub put-other-spec : {M : Type 1} → statement M
-put-other-spec =
+pub put_other_spec : {M : Type 1} → statement M
+put_other_spec =
     tie.close
     (tie.spec
     (λ c κs. search rules)

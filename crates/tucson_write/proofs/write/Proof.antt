@@ -30,7 +30,7 @@ given s = record {
 }
 
 -- the lists fit
-module _ (c : tie.Else1) where
+module _ (c : tie.Else-not-lists_fit) where
   abbrev s : tie.Start
   s = c.before.before.before.before.before
 
@@ -38,64 +38,64 @@ module _ (c : tie.Else1) where
   g = given s
 
   fit : lists_fit g.names g.years g.counts g.widths ≡ true
-  fit = sym c.before.lists-fit.ensures ∙ not-false _ c.if1.false
+  fit = sym c.lists_fit.ensures ∙ c.if-not-lists_fit.false
 
   lists : ListsFit g.names g.years g.counts g.widths
   lists = fits-parts g.names g.years g.counts g.widths fit
 
 -- all series can be written
-module _ (c : tie.After-enum-told) where
-  abbrev e : tie.Else1
-  e = c.before.before.before
+module _ (c : tie.In-Nothing) where
+  abbrev e : tie.Else-not-lists_fit
+  e = c.before.before
 
   all_writable : unwritable (listed (g e)) ≡ none
-  all_writable = found-none_inverts _ (sym c.before.before.first-unwritable.ensures ∙ c.enum_told.given.1)
+  all_writable = found-none_inverts _ (sym c.first_unwritable-found.ensures ∙ c.in-Nothing.is)
 
   counted : Counted (g e).years (g e).counts (listed (g e))
   counted = all_counted (g e).years (g e).names (g e).counts (g e).widths 0 [] (lists e) all_writable
 
 -- the room's test
-module _ (c : tie.After-text-fits) where
-  abbrev t : tie.After-enum-told
+module _ (c : tie.After-text_fits) where
+  abbrev t : tie.In-Nothing
   t = c.before
 
-  room-test : leb (length (written (listed (g (e t))))) (length (g (e t)).text) ≡ c.text-fits.result
-  room-test = ap (λ (n : ℕ). leb n (length (g (e t)).text)) (counted t).bytes ∙ sym c.text-fits.ensures
+  room-test : leb (length (written (listed (g (e t))))) (length (g (e t)).text) ≡ c.text_fits.result
+  room-test = ap (λ (n : ℕ). leb n (length (g (e t)).text)) (counted t).bytes ∙ sym c.text_fits.ensures
 
-returns : tie.Need-returns
+returns : tie.Need-returns-then-not-lists_fit
 returns c =
-    let s = c.before.before.before.before.before in let g = given s in
-    ends_refused g (lists_misfit g (sym c.before.lists-fit.ensures ∙ not-true _ c.if1.true))
+    let s = c in let g = given s.before.before.before.before.before in
+    ends_refused g (lists_misfit g (sym c.lists_fit.ensures ∙ c.if-not-lists_fit.true))
 
-returns-2 : tie.Need-returns-2
+returns-2 : tie.Need-returns-then-not-text_fits
 returns-2 c =
-    let r = c.before in
-    let k = e (t r) in
-    ends_refused (g k) (text-short (g k) (fit k) (all_writable (t r)) (room-test r ∙ not-true _ c.if2.true))
+    let r = c in
+    let k = e (t r.before) in
+    ends_refused (g k) (text-short (g k) (fit k) (all_writable (t r.before)) (room-test r.before ∙ c.if-not-text_fits.true))
 
-put-all-requires : tie.Need-put-all-requires
+put-all-requires : tie.Need-put_all-count-requires
 put-all-requires c κs =
-    let r = c.before.before in
-    record { lists = fit (e (t r)); writable = all_writable (t r); fits = leb-true _ _ (room-test r ∙ not-false _ c.before.if2.false) }
+    let r = c in
+    record { lists = fit (e (t r.before.before)); writable = all_writable (t r.before.before); fits = leb-true _ _ (room-test r.before.before ∙ c.if-not-text_fits.false) }
 
-returns-3 : tie.Need-returns-3
+returns-3 : tie.Need-returns-in-At
 returns-3 c =
-    let f = c.before.before.before.before in
-    let k = f.before in
-    let at = found_some_inverts _ (sym f.first-unwritable.ensures ∙ c.before.before.found.given.1) in
-    let r = ends_refused (g k) (series-unwritable (g k) (fit k) _ at) in
+    let f = c in
+    let k = f in
+    let at = found_some_inverts _ (sym f.first_unwritable-found.ensures ∙ c.in-At.is) in
+    let r = ends_refused (g k.before.before.before) (series-unwritable (g k.before.before.before) (fit k.before.before.before) _ at) in
     (ap (λ (p : ℕ). reply (Refused 11 p)) c.place.ensures ∙ r.0, r.1)
 
-returns-4 : tie.Need-returns-4
+returns-4 : tie.Need-returns-else-not-text_fits
 returns-4 c =
-    let r = c.before.before.before.before.before in
-    let k = e (t r) in
-    let room = room-test r ∙ not-false _ c.before.before.before.before.if2.false in
-    ends-written (g k) (text-answers (g k) (fit k) (all_writable (t r)) room) (leb-true _ _ room) c.before.before.put_all_lem.ensures
+    let r = c in
+    let k = e (t r.before.before.before.before.before) in
+    let room = room-test r.before.before.before.before.before ∙ c.if-not-text_fits.false in
+    ends-written (g k) (text-answers (g k) (fit k) (all_writable (t r.before.before.before.before.before)) room) (leb-true _ _ room) c.put_all-count.ensures
 
 pub write_spec : {M : Type 1} → statement M
 write_spec =
-    tie.close (tie.spec (λ c κs. search rules) returns (λ c κs. sym c.before.lists-fit.ensures ∙ not-false _ c.if1.false)
+    tie.close (tie.spec (λ c κs. search rules) returns (λ c κs. sym c.lists_fit.ensures ∙ c.if-not-lists_fit.false)
     (λ c. search rules) (λ c κs. search rules) (λ c. search rules)
     (λ c κs. record { counted = (lists (e c)).counts_fit; closed = (counted c).closed }) returns-2 put-all-requires returns-3
-    (λ c. wrote_length c.before.before.put_all_lem.ensures) returns-4)
+    (λ c. wrote_length c.put_all-count.ensures) returns-4)

@@ -17,5 +17,5 @@ returns c =
       end_is = nought_is 1;
     }
 
-pub not-sent-spec : {M : Type 1} → statement M
-not-sent-spec = tie.close (tie.spec returns)
+pub not_sent_spec : {M : Type 1} → statement M
+not_sent_spec = tie.close (tie.spec returns)

@@ -11,22 +11,22 @@ use Rattle.walzhik_structs.proofs.Reached.{reach_ext}
 use Rattle.walzhik_structs.proofs.reach_of.Statement.{statement}
 use Rattle.walzhik_structs.proofs.reach_of.Tie as tie
 
-returns : tie.Need-returns
+returns : tie.Need-returns-in-Reached
 unfolding reply reached
 returns c =
-    let a = c.before.before.answer.given in
-    let f : SFits w32 a.0.0 = record { sfits = c.before.known-told.given.0.1 } in
-    let e = c.reach-struct.ensures in
-    reach_ext c.reach-struct.result a.0.0 0 0 (e.0 ∙ to_z-of_z w32 a.0.0 f, e.1) ∙ ap (λ t. reached (reply t)) (sym a.1)
+    let a = c.in-Reached in
+    let f : SFits w32 a.x = record { sfits = c.in-Reached.known_told-1-own.given.0.1 } in
+    let e = c.reach_struct.ensures in
+    reach_ext c.reach_struct.result a.x 0 0 (e.0 ∙ to_z-of_z w32 a.x f, e.1) ∙ ap (λ t. reached (reply t)) (sym a.is)
 
-returns-2 : tie.Need-returns-2
+returns-2 : tie.Need-returns-in-Refused
 unfolding reply reached
 returns-2 c =
-    let a = c.before.before.answer2.given in
-    reach_ext c.reach-struct2.result (pos 0) _ _ c.reach-struct2.ensures ∙ ap (λ t. reached (reply t)) (sym a.1)
+    let a = c.in-Refused in
+    reach_ext c.reach_struct-in-Refused.result (pos 0) _ _ c.reach_struct-in-Refused.ensures ∙ ap (λ t. reached (reply t)) (sym a.is)
 
-pub reach-of-spec : {M : Type 1} → statement M
-reach-of-spec =
+pub reach_of_spec : {M : Type 1} → statement M
+reach_of_spec =
     tie.close
     (tie.spec
     (λ c. search rules)

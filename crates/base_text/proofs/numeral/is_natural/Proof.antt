@@ -39,8 +39,8 @@ returns-4 c =
     let size = length-slice from to text s.requires.within in
     let spare : spare_zero (slice from to text) ≡ false =
     elim c.before.if-n-gt1.branch [
-      then-n-gt1+else-text-from-eq48 w ↦ spare-first text from to (omega arith) s.requires.within ∙ ne_eqb _ _ w.if-text-from-eq48.false
-    | else-n-gt1 w ↦ spare-short (slice from to text) (omega arith)
+      | then-n-gt1+else-text-from-eq48 w ↦ spare-first text from to (omega arith) s.requires.within ∙ ne_eqb _ _ w.if-text-from-eq48.false
+      | else-n-gt1 w ↦ spare-short (slice from to text) (omega arith)
     ] in
     c.all_digits.ensures ∙ sym (natural_digits (slice from to text) (omega arith) (omega arith) spare)
 

@@ -17,9 +17,9 @@ lists c = space c.args.breaks.now c.args.degrees.now c.args.orders.now
 lies : (c : tie.Start) → Lies (length c.args.breaks.now) (length c.args.degrees.now) (length c.args.orders.now) c.args.a c.args.b
 lies c = part_lies _ _ _ c.requires.legal c.requires.part.starts c.requires.part.ends
 
-build-legal-requires : tie.Need-build-legal-requires
+build-legal-requires : tie.Need-build_legal-requires
 build-legal-requires c κs =
-    let s = c.before.before.before.before.before in
+    let s = c in
     record {
       part = slices_legal _ _ _ s.requires.legal s.requires.part.starts s.requires.part.ends;
       room = s.requires.room;
@@ -28,14 +28,14 @@ build-legal-requires c κs =
 
 returns : tie.Need-returns
 returns c =
-    let m = c.before.before in
-    let s = m.before.before.before.before.before.before in
-    subst (λ (p : Space). Ends (weights p) (row_count p) m.build-legal.result s.args.num.now s.args.den.now
-    m.build-legal.new.1.1.1.0 m.build-legal.new.1.1.1.1.0)
-    (sliced (lists s) s.args.a s.args.b (lies s).some) m.build-legal.ensures
+    let m = c in
+    let s = m in
+    subst (λ (p : Space). Ends (weights p) (row_count p) m.build_legal.result s.args.num.now s.args.den.now
+    m.build_legal.new.num m.build_legal.new.den)
+    (sliced (lists s.before.before.before.before.before.before.before.before) s.args.a s.args.b (lies s.before.before.before.before.before.before.before.before).some) m.build_legal.ensures
 
-pub build-part-spec : {M : Type 1} → statement M
-build-part-spec =
+pub build_part_spec : {M : Type 1} → statement M
+build_part_spec =
     tie.close (tie.spec (λ c. let l = lies c in omega arith) (λ c. search rules) (λ c. let l = lies c in omega arith)
     (λ c. let l = lies c in omega arith) (λ c. let l = lies c in omega arith) (λ c. search rules)
     (λ c. let l = lies c.before in omega arith) (λ c. let l = lies c.before in omega arith)

@@ -34,16 +34,16 @@ record Inv (s : Space) (num₀ den₀ num den : List ℤ) (rows used a : ℕ) : 
   few : used ≤ row_cells
   clear : ClearFrom num den used
 
-abbrev invariant-loop : tie.invariant-loop
+abbrev invariant-loop : tie.invariant-loop-a
 invariant-loop breaks degrees orders num₀ den₀ rows₀ used₀ a₀ num den rows used a = Inv (space breaks degrees orders) num₀ den₀ num den rows used a
 
-abbrev decreases-loop : tie.decreases-loop
+abbrev decreases-loop : tie.decreases-loop-a
 decreases-loop breaks degrees orders num₀ den₀ rows₀ used₀ a₀ num den rows used a = length degrees - a
 
 abbrev lists : tie.Start invariant-loop decreases-loop → Space
 lists c = space c.args.breaks.now c.args.degrees.now c.args.orders.now
 
-loop-holds : tie.Need-loop-init invariant-loop decreases-loop
+loop-holds : tie.Need-loop-a-init invariant-loop decreases-loop
 loop-holds c = record {
   num_long = refl;
   den_long = refl;
@@ -52,122 +52,122 @@ loop-holds c = record {
   clear = record { zeros = λ k h l. absurd (omega arith); ones = λ k h l. absurd (omega arith) };
 }
 
-taken : (c : tie.In-loop invariant-loop decreases-loop) → c.before.loop.a < length c.before.before.args.degrees.now
+taken : (c : tie.In-loop-a invariant-loop decreases-loop) → c.loop-a.a < length c.args.degrees.now
 taken c = omega arith
 
 -- the part's end
-module _ (c : tie.After-part-end invariant-loop decreases-loop) where
+module _ (c : tie.After-part_end-b invariant-loop decreases-loop) where
   abbrev first : ℕ
-  first = c.before.before.loop.a
+  first = c.loop-a.a
 
   abbrev beam : Space
   beam = lists c.before.before.before
 
-  end_is : c.part_end.result ≡ part_end beam first
-  end_is = c.part_end.ensures ∙ part_end_partial beam.breaks beam.degrees beam.orders first
+  end_is : c.part_end-b.result ≡ part_end beam first
+  end_is = c.part_end-b.ensures ∙ part_end_partial beam.breaks beam.degrees beam.orders first
 
-build-part-requires : tie.Need-build-part-requires invariant-loop decreases-loop
+build-part-requires : tie.Need-build_part-built-requires invariant-loop decreases-loop
 build-part-requires c κs =
-    let e = c.before.before in
-    let l = e.before.before.loop in
-    let p = e.before.before.before.requires in
+    let e = c in
+    let l = e.loop-a in
+    let p = e.requires in
     record {
       legal = p.legal;
-      part = record { starts = starts _ _ _ p.legal l.invariant.state (taken e.before); ends = end_is e };
+      part = record { starts = starts _ _ _ p.legal l.invariant.state (taken e.before.before.before); ends = end_is e.before.before };
       room = record { num_long = omega (arith, p.room.num_long, l.invariant.num_long); den_long = omega (arith, p.room.den_long, l.invariant.den_long) };
       rest = record { few = l.invariant.few; clear = l.invariant.clear };
     }
 
 -- what the part answers and leaves
-module _ (c : tie.After-build-part invariant-loop decreases-loop) where
-  abbrev ended : tie.After-part-end invariant-loop decreases-loop
+module _ (c : tie.After-build_part-built invariant-loop decreases-loop) where
+  abbrev ended : tie.After-part_end-b invariant-loop decreases-loop
   ended = c.before.before.before
 
   abbrev part : Space
   part = part_at (beam ended) (first ended)
 
   abbrev left : Answer → Space → Type 0
-  left r p = Ends (weights p) (row_count p) r ended.before.before.loop.num ended.before.before.loop.den
-      c.build-part.new.1.1.1.1.1.0 c.build-part.new.1.1.1.1.1.1.0
+  left r p = Ends (weights p) (row_count p) r ended.loop-a.num ended.loop-a.den
+      c.build_part-built.new.num c.build_part-built.new.den
 
-  leaves : {r : Answer} → c.build-part.result ≡ r → left r part
-  leaves {r} e = subst (λ (x : Answer). left x part) e (subst (λ (n : ℕ). left c.build-part.result (section (beam ended) (first ended) (n - first ended))) (end_is ended) c.build-part.ensures)
+  leaves : {r : Answer} → c.build_part-built.result ≡ r → left r part
+  leaves {r} e = subst (λ (x : Answer). left x part) e (subst (λ (n : ℕ). left c.build_part-built.result (section (beam ended) (first ended) (n - first ended))) (end_is ended) c.build_part-built.ensures)
 
   -- one part more
-  more : {n : ℕ} → c.build-part.result ≡ Count n → Before (beam ended) ended.before.before.before.args.num.now
-      ended.before.before.before.args.den.now c.build-part.new.1.1.1.1.1.0 c.build-part.new.1.1.1.1.1.1.0
-      (ended.before.before.loop.rows + n) ended.part_end.result
+  more : {n : ℕ} → c.build_part-built.result ≡ Count n → Before (beam ended) ended.args.num.now
+      ended.args.den.now c.build_part-built.new.num c.build_part-built.new.den
+      (ended.loop-a.rows + n) ended.part_end-b.result
   more {n} e =
       let x = leaves e in
       let t = count_inverts (λ _. row_count part) (weights part) x.answers in
-      subst (Before (beam ended) _ _ _ _ (ended.before.before.loop.rows + n)) (sym (end_is ended))
-      (part_more _ _ _ ended.before.before.before.pre.legal ended.before.before.loop.inv.state (taken ended.before)
+      subst (Before (beam ended) _ _ _ _ (ended.loop-a.rows + n)) (sym (end_is ended))
+      (part_more _ _ _ ended.requires.legal ended.loop-a.invariant.state (taken ended.before)
       t.is t.count x.numerators_are x.denominators_are)
 
   -- it has at most 72 rows, and the rest of the table is clear
-  rows_few : {n : ℕ} → c.build-part.result ≡ Count n → n ≤ row_cells
+  rows_few : {n : ℕ} → c.build_part-built.result ≡ Count n → n ≤ row_cells
   rows_few {n} e =
-      let legal = ended.before.before.before.pre.legal in
-      let own = part_legal _ _ _ legal (first ended) (starts _ _ _ legal ended.before.before.loop.inv.state (taken ended.before)) in
+      let legal = ended.requires.legal in
+      let own = part_legal _ _ _ legal (first ended) (starts _ _ _ legal ended.loop-a.invariant.state (taken ended.before)) in
       omega (arith, (count_inverts (λ _. row_count part) (weights part) (leaves e).answers).count, part-column-count-high _ _ _ own)
 
-  rest_clear : {n : ℕ} → c.build-part.result ≡ Count n → ClearFrom c.build-part.new.1.1.1.1.1.0 c.build-part.new.1.1.1.1.1.1.0 n
+  rest_clear : {n : ℕ} → c.build_part-built.result ≡ Count n → ClearFrom c.build_part-built.new.num c.build_part-built.new.den n
   unfolding numerators_after denominators_after
   rest_clear {n} e =
       let x = leaves e in
       let t = count_inverts (λ _. row_count part) (weights part) x.answers in
-      clear_past t.result ended.before.before.loop.num ended.before.before.loop.den _ _ n (omega (arith, t.count, (weights_shaped part t.is).rows))
-      (x.numerators_are ∙ ap (λ o. numerators_after o ended.before.before.loop.num) t.is)
-      (x.denominators_are ∙ ap (λ o. denominators_after o ended.before.before.loop.den) t.is)
+      clear_past t.result ended.loop-a.num ended.loop-a.den _ _ n (omega (arith, t.count, (weights_shaped part t.is).rows))
+      (x.numerators_are ∙ ap (λ o. numerators_after o ended.loop-a.num) t.is)
+      (x.denominators_are ∙ ap (λ o. denominators_after o ended.loop-a.den) t.is)
 
-  num_kept : length c.build-part.new.1.1.1.1.1.0 ≡ length ended.before.before.before.args.num.now
-  num_kept = c.build-part.auto.1.1.1.1.1.0 ∙ ended.before.before.loop.inv.num_long
+  num_kept : length c.build_part-built.new.num ≡ length ended.args.num.now
+  num_kept = c.build_part-built.auto.num ∙ ended.loop-a.invariant.num_long
 
-  den-kept : length c.build-part.new.1.1.1.1.1.1.0 ≡ length ended.before.before.before.args.den.now
-  den-kept = c.build-part.auto.1.1.1.1.1.1.0 ∙ ended.before.before.loop.inv.den_long
+  den-kept : length c.build_part-built.new.den ≡ length ended.args.den.now
+  den-kept = c.build_part-built.auto.den ∙ ended.loop-a.invariant.den_long
 
-add-rows : tie.Need-overflow-add-rows invariant-loop decreases-loop
+add-rows : tie.Need-overflow_add-rows invariant-loop decreases-loop
 add-rows c =
-    let m = c.before.before.before.before.before in
-    omega (arith, rows-high _ _ _ (ended m).before.before.before.requires.legal (more m c.before.built.given.1))
+    let m = c in
+    omega (arith, rows-high _ _ _ (ended m.before.before.before).requires.legal (more m.before.before.before c.in-Count.is))
 
-add-place : tie.Need-overflow-add-place invariant-loop decreases-loop
+add-place : tie.Need-overflow_add-a invariant-loop decreases-loop
 add-place c =
-    let m = c.before.before.before.before.before in let d = ended m in
-    omega (arith, taken d.before, d.before.before.before.pre.legal.few)
+    let m = c in let d = ended m.before.before.before in
+    omega (arith, taken d.before, d.requires.legal.few)
 
-returns : tie.Need-returns invariant-loop decreases-loop
+returns : tie.Need-returns-in-Refused invariant-loop decreases-loop
 returns c =
-    let m = c.before.before.before.before.before.before in
-    let d = ended m in
-    let x = leaves m c.before.before.built2.given.1 in
-    let e = part_refused _ _ _ d.before.before.before.pre.legal d.before.before.loop.inv.state (taken d.before)
-    (refused_inverts (λ _. row_count (part m)) (weights (part m)) x.answers) x.numerators_are x.denominators_are in
+    let m = c in
+    let d = ended m.before.before.before.before in
+    let x = leaves m.before.before.before.before c.in-Refused.is in
+    let e = part_refused _ _ _ d.requires.legal d.loop-a.invariant.state (taken d.before)
+    (refused_inverts (λ _. row_count (part m.before.before.before.before)) (weights (part m.before.before.before.before)) x.answers) x.numerators_are x.denominators_are in
     record {
-      answers = ap (λ (p : ℕ). reply (Refused c.before.before.built2.given.0.0 p)) c.place.ensures ∙ e.answers;
+      answers = ap (λ (p : ℕ). reply (Refused c.in-Refused.code p)) c.place.ensures ∙ e.answers;
       numerators_are = e.numerators_are;
       denominators_are = e.denominators_are;
     }
 
-loop-less : tie.Need-loop-smaller invariant-loop decreases-loop
+loop-less : tie.Need-loop-a-smaller invariant-loop decreases-loop
 loop-less c =
-    let m = c.before.before.before.before.before in let d = ended m in
+    let m = c in let d = ended m.before.before.before in
     let l = part-ends (beam d) (first d) (taken d.before) in
     omega (arith, end_is d, l.above, taken d.before)
 
-loop-again : tie.Need-loop-preserved invariant-loop decreases-loop
+loop-again : tie.Need-loop-a-preserved invariant-loop decreases-loop
 loop-again c =
-    let m = c.before.before.before.before.before in
-    let told = c.before.built.given.1 in
-    record { num_long = num_kept m; den_long = den-kept m; state = more m told; few = rows_few m told; clear = rest_clear m told }
+    let m = c in
+    let told = c.in-Count.is in
+    record { num_long = num_kept m.before.before.before; den_long = den-kept m.before.before.before; state = more m.before.before.before told; few = rows_few m.before.before.before told; clear = rest_clear m.before.before.before told }
 
-returns-2 : tie.Need-returns-2 invariant-loop decreases-loop
-returns-2 c = parts_done _ _ _ c.before.before.requires.legal c.before.loop.invariant.state (omega arith)
+returns-2 : tie.Need-returns invariant-loop decreases-loop
+returns-2 c = parts_done _ _ _ c.requires.legal c.loop-a.invariant.state (omega arith)
 
-pub build-parts-spec : {M : Type 1} → statement M
-build-parts-spec =
-    tie.close (tie.spec invariant-loop decreases-loop loop-holds (λ c κs. (taken c, sym c.before.before.requires.legal.order-count)) build-part-requires
+pub build_parts_spec : {M : Type 1} → statement M
+build_parts_spec =
+    tie.close (tie.spec invariant-loop decreases-loop loop-holds (λ c κs. (taken c, sym c.requires.legal.order-count)) build-part-requires
     (λ c. search rules) add-rows (λ c. search rules) (λ c. omega arith) add-place (λ c κs. tt)
-    (λ c. let m = c.before.before.before.before.before.before in num_kept m)
-    (λ c. let m = c.before.before.before.before.before.before in den-kept m) returns loop-less
-    loop-again (λ c. c.before.loop.invariant.num_long) (λ c. c.before.loop.invariant.den_long) returns-2)
+    (λ c. let m = c in num_kept m.before.before.before.before)
+    (λ c. let m = c in den-kept m.before.before.before.before) returns loop-less
+    loop-again (λ c. c.loop-a.invariant.num_long) (λ c. c.loop-a.invariant.den_long) returns-2)

@@ -55,29 +55,29 @@ record Columns (ordinates from to : ℕ) : Type 0 where
   inside : to ≤ ordinates
   few : ordinates ≤ 288
 
-module _ (c : tie.After-first-column2) where
+module _ (c : tie.After-first_column-to) where
   abbrev start : tie.Start
   start = c.before.before
 
   abbrev lists : Space
   lists = space start.args.breaks.now start.args.degrees.now start.args.orders.now
 
-  from_is : c.before.first-column.result ≡ first_column lists start.args.a
-  from_is = c.before.first-column.ensures ∙ first-column_partial _ _ _ start.args.a
+  from_is : c.first_column-from.result ≡ first_column lists start.args.a
+  from_is = c.first_column-from.ensures ∙ first-column_partial _ _ _ start.args.a
 
-  to_is : c.first-column2.result ≡ first_column lists start.args.b
-  to_is = c.first-column2.ensures ∙ first-column_partial _ _ _ start.args.b
+  to_is : c.first_column-to.result ≡ first_column lists start.args.b
+  to_is = c.first_column-to.ensures ∙ first-column_partial _ _ _ start.args.b
 
   whole : start.args.a + (start.args.b - start.args.a) ≡ start.args.b
   whole = omega (arith, (lies start).some)
 
-  own : Columns (length start.args.ordinates.now) c.before.first-column.result c.first-column2.result
+  own : Columns (length start.args.ordinates.now) c.first_column-from.result c.first_column-to.result
   own =
-      let l = start.pre.legal in
+      let l = start.requires.legal in
       record {
         ordered = omega (arith, from_is, to_is, first_column_mono lists start.args.a start.args.b (omega (arith, whole)));
-        inside = omega (arith, to_is, first_column_mono lists start.args.b (segments lists) (lies start).within, start.pre.given.count);
-        few = omega (arith, start.pre.given.count, legal_first-column-high _ _ _ l (segments lists) (omega arith), l.few);
+        inside = omega (arith, to_is, first_column_mono lists start.args.b (segments lists) (lies start).within, start.requires.given.count);
+        few = omega (arith, start.requires.given.count, legal_first-column-high _ _ _ l (segments lists) (omega arith), l.few);
       }
 
   -- the slices are the part
@@ -88,44 +88,44 @@ module _ (c : tie.After-first-column2) where
   part_is = sliced lists start.args.a start.args.b (lies start).some
 
   -- and its columns those of its ordinates
-  columns_are : c.first-column2.result - c.before.first-column.result ≡ column_count (section lists start.args.a (start.args.b - start.args.a))
+  columns_are : c.first_column-to.result - c.first_column-from.result ≡ column_count (section lists start.args.a (start.args.b - start.args.a))
   columns_are = omega (arith, from_is, to_is, ap (first_column lists) whole, section-column_count lists start.args.a (start.args.b - start.args.a) (omega (arith, whole, (lies start).within)))
 
-recover-part-requires : tie.Need-recover-part-requires
+recover-part-requires : tie.Need-recover_part-requires
 recover-part-requires c κs =
-    let f = c.before.before.before.before.before.before in
-    let s = start f in
-    let l = own f in
+    let f = c in
+    let s = start f.before.before.before.before.before.before in
+    let l = own f.before.before.before.before.before.before in
     record {
-      part = slices_legal _ _ _ s.pre.legal s.pre.part.starts s.pre.part.ends;
-      room = s.pre.room;
+      part = slices_legal _ _ _ s.requires.legal s.requires.part.starts s.requires.part.ends;
+      room = s.requires.room;
       given = record {
-        count = length-take-le (f.first-column2.result - f.before.first-column.result) (drop f.before.first-column.result s.args.ordinates.now)
-            (omega (arith, l.ordered, l.inside, length-drop f.before.first-column.result s.args.ordinates.now))
-            ∙ columns_are f ∙ ap column_count (sym (part_is f));
-        fit = slice-fit f.before.first-column.result (f.first-column2.result - f.before.first-column.result) s.args.ordinates.now
-            s.pre.given.fit;
+        count = length-take-le (f.first_column-to.result - f.first_column-from.result) (drop f.first_column-from.result s.args.ordinates.now)
+            (omega (arith, l.ordered, l.inside, length-drop f.first_column-from.result s.args.ordinates.now))
+            ∙ columns_are f.before.before.before.before.before.before ∙ ap column_count (sym (part_is f.before.before.before.before.before.before));
+        fit = slice-fit f.first_column-from.result (f.first_column-to.result - f.first_column-from.result) s.args.ordinates.now
+            s.requires.given.fit;
       };
     }
 
 returns : tie.Need-returns
 returns c =
-    let m = c.before.before in
-    let f = m.before.before.before.before.before.before.before in
-    let s = start f in
-    let part = section (lists f) s.args.a (s.args.b - s.args.a) in
-    subst (λ (os : List ℤ). JoinsLeave (recovered part os) (row_count part) m.recover-part.result s.args.num.now s.args.den.now
-    m.recover-part.new.1.1.1.1.0 m.recover-part.new.1.1.1.1.1.0)
-    (ap₂ (λ (n : ℕ) (i : ℕ). take n (drop i s.args.ordinates.now)) (columns_are f) (from_is f))
-    (subst (λ (p : Space). JoinsLeave (recovered p (take (f.first-column2.result - f.before.first-column.result)
-    (drop f.before.first-column.result s.args.ordinates.now))) (row_count p) m.recover-part.result s.args.num.now s.args.den.now
-    m.recover-part.new.1.1.1.1.0 m.recover-part.new.1.1.1.1.1.0)
-    (part_is f) m.recover-part.ensures)
+    let m = c in
+    let f = m in
+    let s = start f.before.before.before.before.before.before.before.before.before in
+    let part = section (lists f.before.before.before.before.before.before.before.before.before) s.args.a (s.args.b - s.args.a) in
+    subst (λ (os : List ℤ). JoinsLeave (recovered part os) (row_count part) m.recover_part.result s.args.num.now s.args.den.now
+    m.recover_part.new.num m.recover_part.new.den)
+    (ap₂ (λ (n : ℕ) (i : ℕ). take n (drop i s.args.ordinates.now)) (columns_are f.before.before.before.before.before.before.before.before.before) (from_is f.before.before.before.before.before.before.before.before.before))
+    (subst (λ (p : Space). JoinsLeave (recovered p (take (f.first_column-to.result - f.first_column-from.result)
+    (drop f.first_column-from.result s.args.ordinates.now))) (row_count p) m.recover_part.result s.args.num.now s.args.den.now
+    m.recover_part.new.num m.recover_part.new.den)
+    (part_is f.before.before.before.before.before.before.before.before.before) m.recover_part.ensures)
 
-pub recover-at-spec : {M : Type 1} → statement M
-recover-at-spec =
+pub recover_at_spec : {M : Type 1} → statement M
+recover_at_spec =
     tie.close (tie.spec (λ c κs. search rules)
-    (λ c κs. let s = c.before in ((lies s).within, (s.requires.legal.few, s.requires.legal.degrees_legal)))
+    (λ c κs. let s = c in ((lies s.before).within, (s.requires.legal.few, s.requires.legal.degrees_legal)))
     (λ c. let l = lies (start c) in omega arith) (λ c. search rules) (λ c. let l = lies (start c) in omega arith)
     (λ c. let l = lies (start c) in omega arith) (λ c. let l = lies (start c) in omega arith) (λ c. search rules)
     (λ c. let l = lies (start c.before) in omega arith) (λ c. let l = lies (start c.before) in omega arith)

@@ -29,10 +29,10 @@ record Inv (nums₀ dens₀ : List ℤ) (from : ℕ) (cs : Fractions) (n : ℕ) 
       → nums₀ ≡ listed numerator_of from done num → dens₀ ≡ listed denominator_of from done den → from + n ≤ length num → from + n ≤ length den
       → CoefficientsListed (from + i) (done ++ ps) num den nums dens
 
-abbrev invariant-loop : tie.invariant-loop
+abbrev invariant-loop : tie.invariant-loop-i
 invariant-loop nums₀ dens₀ from n cs i₀ nums dens i = Inv nums₀ dens₀ from cs n nums dens i
 
-abbrev decreases-loop : tie.decreases-loop
+abbrev decreases-loop : tie.decreases-loop-i
 decreases-loop nums₀ dens₀ from n cs i₀ nums dens i = n - i
 
 -- the coefficients before are those of the longer list
@@ -62,19 +62,19 @@ unfolding fraction
 den-part q = refl
 
 -- the turn in which a fraction is read
-abbrev turn : tie.After-fraction-at invariant-loop decreases-loop → tie.In-loop invariant-loop decreases-loop
-turn q = q.before.before.before.before
+abbrev turn : tie.After-fraction_at-q invariant-loop decreases-loop → tie.In-loop-i invariant-loop decreases-loop
+turn q = q.before.before.before
 
 -- the turn's cell is inside
-inside : (c : tie.After-struct-told2 invariant-loop decreases-loop) → let a = (turn c.before.before).before in let at = a.before.args.from + a.loop.i in
-    (at < length a.loop.coef-num) × (at < length a.loop.coef-den)
+inside : (c : tie.After-struct_told-in-loop-i-1 invariant-loop decreases-loop) → let a = (turn c.before.before) in let at = a.args.from + a.loop-i.i in
+    (at < length a.loop-i.coef_num) × (at < length a.loop-i.coef_den)
 inside c =
-    let a = (turn c.before.before).before in
-    let p = a.before.pre in
-    let t = (turn c.before.before).loop-test.taken in
-    (omega (arith, t, p.num_room, a.loop.inv.num_long), omega (arith, t, p.den-room, a.loop.inv.den_long))
+    let a = (turn c.before.before) in
+    let p = a.requires in
+    let t = (turn c.before.before).loop-i-test.true in
+    (omega (arith, t, p.num_room, a.loop-i.invariant.num_long), omega (arith, t, p.den-room, a.loop-i.invariant.den_long))
 
-loop-holds : tie.Need-loop-init invariant-loop decreases-loop
+loop-holds : tie.Need-loop-i-init invariant-loop decreases-loop
 loop-holds c = record {
   within = omega arith;
   num_long = refl;
@@ -82,36 +82,36 @@ loop-holds c = record {
   state = λ done ps num den e m n p q k l. record { num_is = p ∙ first_is numerator_of c.args.from done ps num m; den_is = q ∙ first_is denominator_of c.args.from done ps den m };
 }
 
-loop-again : tie.Need-loop-preserved invariant-loop decreases-loop
+loop-again : tie.Need-loop-i-preserved invariant-loop decreases-loop
 loop-again c =
-    let q = c.before.before in
-    let a = (turn q).before in
-    let g = a.before.args in
-    let v = a.loop.inv in
-    let x : SFits w64 q.fraction-at.result.num = record { sfits = c.struct-told2.given.0.1 } in
-    let y : SFits w64 q.fraction-at.result.den = record { sfits = c.struct-told2.given.1.0.1 } in
+    let q = c in
+    let a = (turn q.before.before) in
+    let g = a.args in
+    let v = a.loop-i.invariant in
+    let x : SFits w64 q.fraction_at-q.result.num = record { sfits = c.struct_told-in-loop-i-1.given.0.1 } in
+    let y : SFits w64 q.fraction_at-q.result.den = record { sfits = c.struct_told-in-loop-i-1.given.1.0.1 } in
     record {
       within = omega arith;
-      num_long = length-set a.loop.coef-num (g.from + a.loop.i) _ ∙ v.num_long;
-      den_long = length-set a.loop.coef-den (g.from + a.loop.i) _ ∙ v.den_long;
+      num_long = length-set a.loop-i.coef_num (g.from + a.loop-i.i) _ ∙ v.num_long;
+      den_long = length-set a.loop-i.coef_den (g.from + a.loop-i.i) _ ∙ v.den_long;
       state = λ done ps num den e m n p r k l.
           let z = v.state done ps num den e m n p r k l in
-          let b = q.fraction-at.ensures ps e in
-          let w = here-is g.from a.loop.i done ps m in
+          let b = q.fraction_at-q.ensures ps e in
+          let w = here-is g.from a.loop-i.i done ps m in
           record {
-            num_is = simp to_z-of_z (more numerator_of g.from a.loop.i (done ++ ps) a.loop.coef-num num q.fraction-at.result.num z.num_is
-                (ap (λ (t : Fraction). t.num) b ∙ num-part (entry ps a.loop.i) ∙ ap numerator_of (sym w)) (omega arith));
-            den_is = simp to_z-of_z (more denominator_of g.from a.loop.i (done ++ ps) a.loop.coef-den den q.fraction-at.result.den z.den_is
-                (ap (λ (t : Fraction). t.den) b ∙ den-part (entry ps a.loop.i) ∙ ap denominator_of (sym w)) (omega arith));
+            num_is = simp to_z-of_z (more numerator_of g.from a.loop-i.i (done ++ ps) a.loop-i.coef_num num q.fraction_at-q.result.num z.num_is
+                (ap (λ (t : Fraction). t.num) b ∙ num-part (entry ps a.loop-i.i) ∙ ap numerator_of (sym w)) (omega arith));
+            den_is = simp to_z-of_z (more denominator_of g.from a.loop-i.i (done ++ ps) a.loop-i.coef_den den q.fraction_at-q.result.den z.den_is
+                (ap (λ (t : Fraction). t.den) b ∙ den-part (entry ps a.loop-i.i) ∙ ap denominator_of (sym w)) (omega arith));
           };
     }
 
 returns : tie.Need-returns invariant-loop decreases-loop
 returns c done ps num den e m n p q k l =
-    let a = c.before.before.args in
-    let i = c.before.loop.i in
+    let a = c.args in
+    let i = c.loop-i.i in
     let z : i ≡ a.n = omega arith in
-    let x = c.before.loop.invariant.state done ps num den e m n p q k l in
+    let x = c.loop-i.invariant.state done ps num den e m n p q k l in
     record {
       num_is = x.num_is ∙ ap (λ h. listed numerator_of (a.from + h) (done ++ ps) num) z;
       den_is = x.den_is ∙ ap (λ h. listed denominator_of (a.from + h) (done ++ ps) den) z;
@@ -121,4 +121,4 @@ pub write_spec : {M : Type 1} → statement M
 write_spec =
     tie.close (tie.spec invariant-loop decreases-loop loop-holds (λ c κs. omega arith) (λ c. let h = inside c in omega (arith, h.0))
     (λ c. let h = inside c in omega (arith, h.0)) (λ c. (inside c).0) (λ c. let h = inside c in omega (arith, h.0)) (λ c. (inside c).1)
-    (λ c. omega arith) (λ c. omega arith) loop-again (λ c. c.before.loop.invariant.num_long) (λ c. c.before.loop.invariant.den_long) returns)
+    (λ c. omega arith) (λ c. omega arith) loop-again (λ c. c.loop-i.invariant.num_long) (λ c. c.loop-i.invariant.den_long) returns)
