@@ -16,39 +16,39 @@ use Rattle.rings_text.proofs.Fronts.{front_then}
 use Rattle.rings_text.proofs.put_fault.Statement.{statement}
 use Rattle.rings_text.proofs.put_fault.Tie as tie
 
-put-name-requires : tie.Need-put-name-requires
+put-name-requires : tie.Need-put_name-a-requires
 put-name-requires c κs =
-    let s = c.before.before.before in
+    let s = c in
     record { room = omega (arith, s.requires.room); whole = name_length s.args.name.now s.requires.named }
 
 -- the name, where it has been put
-module _ (k : tie.After-put-name) where
-  room : 118 ≤ length k.put-name.new.0
-  room = omega (arith, k.put-name.auto.0, k.before.before.before.before.requires.room)
+module _ (k : tie.After-put_name-a) where
+  room : 118 ≤ length k.put_name-a.new.0
+  room = omega (arith, k.put_name-a.auto.0, k.requires.room)
 
-  front : Front (name_text k.before.before.before.before.args.name.now) k.put-name.result k.put-name.last.0
-  front = record { fits = omega (arith, room, k.put-name.ensures.within); is = k.put-name.ensures.is }
+  front : Front (name_text k.args.name.now) k.put_name-a.result k.put_name-a.last.0
+  front = record { fits = omega (arith, room, k.put_name-a.ensures.within); is = k.put_name-a.ensures.is }
 
 returns : tie.Need-returns
 unfolding fault_line
 returns c =
-    let digits = c.before.before.before.before.before.before in
-    let words = digits.before.before.before.before in
-    let year = words.before.before.before.before.before in
-    let space = year.before.before.before.before in
-    let k = space.before.before.before.before in
-    let s = k.before.before.before.before in
+    let digits = c in
+    let words = digits in
+    let year = words in
+    let space = year in
+    let k = space in
+    let s = k in
     let f : SFits w64 s.args.year = s.ranges.year in
-    front_then (front k)
-    (puts_then space.put.ensures
-    (puts_then (simp to_z-of_z at year.put-decimal.ensures)
-    (puts_then words.put-text.ensures
-    (puts_then digits.put-digits.ensures
-    c.before.before.put2.ensures))))
-    (omega (arith, room k, k.put-name.ensures.within))
+    front_then (front k.before.before.before.before.before.before.before.before.before.before.before.before.before.before.before.before.before.before.before.before.before.before.before.before)
+    (puts_then space.put-b.ensures
+    (puts_then (simp to_z-of_z at year.put_decimal-c.ensures)
+    (puts_then words.put_text-d.ensures
+    (puts_then digits.put_digits-e.ensures
+    c.put.ensures))))
+    (omega (arith, room k.before.before.before.before.before.before.before.before.before.before.before.before.before.before.before.before.before.before.before.before.before.before.before.before, k.put_name-a.ensures.within))
 
-pub put-fault-spec : {M : Type 1} → statement M
-put-fault-spec =
+pub put_fault_spec : {M : Type 1} → statement M
+put_fault_spec =
     tie.close
     (tie.spec
     put-name-requires

@@ -45,7 +45,7 @@ indices-long : length ring-indices ≡ position_limit
 indices-long = length-replicate {0} {A = ℤ} 4096 (pos 0)
 
 -- where it has returned
-module _ (k : tie.After-indices) where
+module _ (k : tie.After-indices-answer) where
   abbrev start : tie.Start
   start = k.before.before.before.before.before.before.before
 
@@ -68,97 +68,97 @@ module _ (k : tie.After-indices) where
   widths = start.args.widths.now
 
   few : length widths ≤ position_limit
-  few = start.pre.1
+  few = start.requires.1
 
   fits-year : SFits w32 year
-  fits-year = start.fits.first
+  fits-year = start.ranges.first
 
   abbrev outcome : Outcome CurveResult
   outcome = rings_read curve coefs year widths table_cells table_cells (length values) (length ring-indices)
 
   abbrev values_now : List ℤ
-  values_now = k.indices.last.1.1.1.1.1.1.1.1.1.0
+  values_now = k.indices-answer.new.values
 
   abbrev indices_now : List ℤ
-  indices_now = k.indices.last.1.1.1.1.1.1.1.1.1.1.0
+  indices_now = k.indices-answer.new.indices
 
-  replies : reply k.indices.result ≡ indices_returned (outcome then rings_indexed wood widths)
-  replies = let f = fits-year in simp to_z-of_z at k.indices.ensures.0
+  replies : reply k.indices-answer.result ≡ indices_returned (outcome then rings_indexed wood widths)
+  replies = let f = fits-year in simp to_z-of_z at k.indices-answer.ensures.0
 
   values_are : values_now ≡ values_after outcome values
-  values_are = let f = fits-year in simp to_z-of_z at k.indices.ensures.1.1.1.0
+  values_are = let f = fits-year in simp to_z-of_z at k.indices-answer.ensures.1.1.1.0
 
   indices_are : indices_now ≡ indices_after (outcome then rings_indexed wood widths) ring-indices
-  indices_are = let f = fits-year in simp to_z-of_z at k.indices.ensures.1.1.1.1
+  indices_are = let f = fits-year in simp to_z-of_z at k.indices-answer.ensures.1.1.1.1
 
   -- where it has answered
-  module _ (m : ℕ) (v : k.indices.result ≡ answers.Count m) where
+  module _ (m : ℕ) (v : k.indices-answer.result ≡ answers.Count m) where
     abbrev machine : IndexedSeries
     machine = record { name = name; first_year = year; widths = widths; values = take (2 * length widths) values_now; indices = take (length widths) indices_now }
 
     eight : length name ≡ 8
-    eight = name_length name start.pre.0.named
+    eight = name_length name start.requires.0.named
 
     asks : (out : List ℕ) → length out ≡ length start.args.out.now → LinesAsk wood machine out
     asks out e =
         subst (λ (i : IndexedSeries). LinesAsk wood i out)
-        (sym (machine_lists wood curve coefs name year widths few values ring-indices values-long indices-long k.indices.result replies v values_are indices_are))
+        (sym (machine_lists wood curve coefs name year widths few values ring-indices values-long indices-long k.indices-answer.result replies v values_are indices_are))
         (record {
-          fit = lists-fit wood curve coefs name year widths few values ring-indices values-long indices-long k.indices.result replies v eight;
-          named = start.pre.0.named;
+          fit = lists-fit wood curve coefs name year widths few values ring-indices values-long indices-long k.indices-answer.result replies v eight;
+          named = start.requires.0.named;
           room = omega (
             arith,
-            lines-short wood curve coefs name year widths few values ring-indices values-long indices-long k.indices.result replies v eight (abs_sfits fits-year),
-            start.pre.0.room,
+            lines-short wood curve coefs name year widths few values ring-indices values-long indices-long k.indices-answer.result replies v eight (abs_sfits fits-year),
+            start.requires.0.room,
             e,
           );
         })
 
     text : ring_lines wood machine ≡ series_text wood curve coefs (record { name = name; first_year = year; widths = widths })
     text =
-        ap (ring_lines wood) (machine_lists wood curve coefs name year widths few values ring-indices values-long indices-long k.indices.result replies v values_are indices_are)
-        ∙ answered_text wood curve coefs name year widths few values ring-indices values-long indices-long k.indices.result replies v
+        ap (ring_lines wood) (machine_lists wood curve coefs name year widths few values ring-indices values-long indices-long k.indices-answer.result replies v values_are indices_are)
+        ∙ answered_text wood curve coefs name year widths few values ring-indices values-long indices-long k.indices-answer.result replies v
 
-slice-aggregate-put-lines : tie.Need-slice-aggregate-put-lines
+slice-aggregate-put-lines : tie.Need-slice_bounds-put_lines-end
 slice-aggregate-put-lines c =
-    let k = c.before.before.before.before.before.before.before in
-    sym (length-take-le (2 * length (widths k)) (values_now k) (omega (arith, few k, c.before.before.before.before.values2.given)))
+    let k = c in
+    sym (length-take-le (2 * length (widths k.before.before.before.before.before.before)) (values_now k.before.before.before.before.before.before) (omega (arith, few k.before.before.before.before.before.before, c.values-2-1.given)))
 
-slice-aggregate-put-lines-2 : tie.Need-slice-aggregate-put-lines-2
+slice-aggregate-put-lines-2 : tie.Need-slice_bounds-put_lines-end-in-Count
 slice-aggregate-put-lines-2 c =
-    let k = c.before.before.before.before.before.before.before.before in
-    sym (length-take-le (length (widths k)) (indices_now k) (omega (arith, few k, c.before.before.before.before.ring-indices2.given)))
+    let k = c in
+    sym (length-take-le (length (widths k.before.before.before.before.before.before.before)) (indices_now k.before.before.before.before.before.before.before) (omega (arith, few k.before.before.before.before.before.before.before, c.ring_indices-2-1.given)))
 
-put-lines-requires : tie.Need-put-lines-requires
+put-lines-requires : tie.Need-put_lines-requires
 put-lines-requires c κs =
-    let k = c.before.before.before.before.before.before.before.before.before in
-    let f = fits-year k in
-    simp to_z-of_z (asks k _ c.before.before.before.enum_told.given.1 (start k).args.out.now refl)
+    let k = c in
+    let f = fits-year k.before.before.before.before.before.before.before.before in
+    simp to_z-of_z (asks k.before.before.before.before.before.before.before.before _ c.in-Count.is (start k.before.before.before.before.before.before.before.before).args.out.now refl)
 
-returns : tie.Need-returns
+returns : tie.Need-returns-in-Refused
 returns c =
-    let k = c.before.before.before.before.before.before.before.before.before.before.before.before.before in let f = fits-year k in
-    let a = c.before.before.before.before.before.before.before.answer in let r = c.before.before.before.before.before.fault-ring in
-    let y = c.before.before.before.before.year-of in
-    let g : SFits w64 y.result = record { sfits = y.type-inv } in
-    let e : y.result ≡ year k +ℤ pos r.result = simp to_z-of_z at y.ensures in
-    subst (λ (t : Text). Front t c.before.before.put-fault.result c.before.before.put-fault.new.1.1.1.0)
-    (ap (λ (z : ℤ). fault_line (name k) z a.given.0.0)
-    (e ∙ ap (λ (j : ℕ). year k +ℤ pos j) r.ensures)
-    ∙ refused_text (wood k) (curve k) (coefs k) (name k) (year k) (widths k) (few k) values ring-indices values-long indices-long
-    k.indices.result (replies k) a.given.1)
-    (simp to_z-of_z at c.before.before.put-fault.ensures)
+    let k = c in let f = fits-year k.before.before.before.before.before.before.before.before.before.before.before in
+    let a = c.answer in let r = c.fault_ring-ring in
+    let y = c.year_of-year in
+    let g : SFits w64 y.result = record { sfits = y.type_inv } in
+    let e : y.result ≡ year k.before.before.before.before.before.before.before.before.before.before.before +ℤ pos r.result = simp to_z-of_z at y.ensures in
+    subst (λ (t : Text). Front t c.put_fault.result c.put_fault.new.out)
+    (ap (λ (z : ℤ). fault_line (name k.before.before.before.before.before.before.before.before.before.before.before) z a.given.0.0)
+    (e ∙ ap (λ (j : ℕ). year k.before.before.before.before.before.before.before.before.before.before.before +ℤ pos j) r.ensures)
+    ∙ refused_text (wood k.before.before.before.before.before.before.before.before.before.before.before) (curve k.before.before.before.before.before.before.before.before.before.before.before) (coefs k.before.before.before.before.before.before.before.before.before.before.before) (name k.before.before.before.before.before.before.before.before.before.before.before) (year k.before.before.before.before.before.before.before.before.before.before.before) (widths k.before.before.before.before.before.before.before.before.before.before.before) (few k.before.before.before.before.before.before.before.before.before.before.before) values ring-indices values-long indices-long
+    k.indices-answer.result (replies k.before.before.before.before.before.before.before.before.before.before.before) a.given.1)
+    (simp to_z-of_z at c.put_fault.ensures)
 
-returns-2 : tie.Need-returns-2
+returns-2 : tie.Need-returns-in-Count
 returns-2 c =
-    let b = c.before.before.before.before.before.before in let k = b.before.before.before.before.before.before in
-    let f = fits-year k in
-    subst (λ (t : Text). Front t c.before.before.put-lines.result c.before.before.put-lines.new.1.1.1.1.1.1.0)
-    (text k _ b.enum_told.given.1)
-    (simp to_z-of_z at c.before.before.put-lines.ensures)
+    let b = c in let k = b in
+    let f = fits-year k.before.before.before.before.before.before.before.before.before.before.before in
+    subst (λ (t : Text). Front t c.put_lines.result c.put_lines.new.out)
+    (text k.before.before.before.before.before.before.before.before.before.before.before _ b.in-Count.is)
+    (simp to_z-of_z at c.put_lines.ensures)
 
-pub put-indexed-spec : {M : Type 1} → statement M
-put-indexed-spec =
+pub put_indexed_spec : {M : Type 1} → statement M
+put_indexed_spec =
     tie.close
     (tie.spec
     (λ c. search rules)

@@ -16,7 +16,7 @@ use Rattle.rings_text.proofs.put_lines.Statement.{statement}
 use Rattle.rings_text.proofs.put_lines.Tie as tie
 
 -- where the call has returned
-module _ (k : tie.After-ring-lines) where
+module _ (k : tie.After-ring_lines-lines) where
   abbrev start : tie.Start
   start = k.before.before.before.before
 
@@ -31,21 +31,21 @@ module _ (k : tie.After-ring-lines) where
   abbrev out : List ℕ
   out = start.args.out.now
 
-  ends : (reply k.ring-lines.result ≡ (ring_lines_end wood series out).answers) × (k.ring-lines.last.1.1.1.1.1.1.0 ≡ (ring_lines_end wood series out).text)
-  ends = let f : SFits w32 start.args.first = start.fits.first in simp to_z-of_z at k.ring-lines.ensures
+  ends : (reply k.ring_lines-lines.result ≡ (ring_lines_end wood series out).answers) × (k.ring_lines-lines.last.1.1.1.1.1.1.0 ≡ (ring_lines_end wood series out).text)
+  ends = let f : SFits w32 start.args.first = start.ranges.first in simp to_z-of_z at k.ring_lines-lines.ensures
 
-returns : tie.Need-returns
+returns : tie.Need-returns-in-Refused
 returns c =
-    let k = c.before.before.before.before in
-    let p = (start k).requires in
-    absurd (never_refused (wood k) (series k) p.fit p.named (out k) p.room k.ring-lines.result (ends k).0 c.enum_told.given.1)
+    let k = c in
+    let p = (start k.before.before.before).requires in
+    absurd (never_refused (wood k.before.before.before) (series k.before.before.before) p.fit p.named (out k.before.before.before) p.room k.ring_lines-lines.result (ends k.before.before.before).0 c.in-Refused.is)
 
-returns-2 : tie.Need-returns-2
+returns-2 : tie.Need-returns-in-Count
 returns-2 c =
-    let k = c.before.before.before.before.before in
-    let p = (start k).requires in
-    lines-front (wood k) (series k) p.fit p.named (out k) p.room k.ring-lines.result (ends k).0 c.before.lines.given.1 (ends k).1
+    let k = c in
+    let p = (start k.before.before.before).requires in
+    lines-front (wood k.before.before.before) (series k.before.before.before) p.fit p.named (out k.before.before.before) p.room k.ring_lines-lines.result (ends k.before.before.before).0 c.in-Count.is (ends k.before.before.before).1
 
-pub put-lines-spec : {M : Type 1} → statement M
-put-lines-spec =
+pub put_lines_spec : {M : Type 1} → statement M
+put_lines_spec =
     tie.close (tie.spec (λ c κs. search rules) (λ c. search rules) (λ c. search rules) (λ c. search rules) returns (λ c. search rules) returns-2)

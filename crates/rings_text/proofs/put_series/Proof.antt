@@ -14,26 +14,26 @@ use Rattle.rings_text.proofs.Indexed.{many_text}
 use Rattle.rings_text.proofs.put_series.Statement.{statement}
 use Rattle.rings_text.proofs.put_series.Tie as tie
 
-returns : tie.Need-returns
+returns : tie.Need-returns-then-widths-gt-POSITION_LIMIT
 returns c =
-    let s = c.before.before.before.before.before.before.before.before in let x = s.args in
-    let many = c.before.before.before.before.before.if1.true in
+    let s = c in let x = s.args in
+    let many = c.if-widths-gt-POSITION_LIMIT.true in
     let f : SFits w32 x.first = s.ranges.first in
-    let y = c.before.before.before.before.year-of in
-    let g : SFits w64 y.result = record { sfits = y.type-inv } in
+    let y = c.year_of-year in
+    let g : SFits w64 y.result = record { sfits = y.type_inv } in
     let e : y.result ≡ x.first +ℤ pos 4096 = simp to_z-of_z at y.ensures in
-    subst (λ (t : Text). Front t c.before.before.put-fault.result c.before.before.put-fault.new.1.1.1.0)
+    subst (λ (t : Text). Front t c.put_fault.result c.put_fault.new.1.1.1.0)
     (ap (λ (z : ℤ). fault_line x.name.now z 2) e
     ∙ many_text (wood_of x.wood) (space x.breaks.now x.degrees.now x.orders.now) x.coefs.now
     x.name.now x.first x.widths.now s.requires.fitting many)
-    (simp to_z-of_z at c.before.before.put-fault.ensures)
+    (simp to_z-of_z at c.put_fault.ensures)
 
-returns-2 : tie.Need-returns-2
+returns-2 : tie.Need-returns
 returns-2 c =
-    let s = c.before.before.before.before.before.before.before in
+    let s = c in
     let f : SFits w32 s.args.first = s.ranges.first in
-    simp to_z-of_z at c.before.before.put-indexed.ensures
+    simp to_z-of_z at c.put_indexed.ensures
 
-pub put-series-spec : {M : Type 1} → statement M
-put-series-spec =
+pub put_series_spec : {M : Type 1} → statement M
+put_series_spec =
     tie.close (tie.spec (λ c κs. search rules) (λ c κs. search rules) (λ c. search rules) returns (λ c κs. search rules) (λ c. search rules) returns-2)

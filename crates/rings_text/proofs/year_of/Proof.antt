@@ -21,10 +21,10 @@ module _ (c : tie.Start) where
   sum : SFits w64 (c.args.first +ℤ pos c.args.ring)
   sum = sfits_abs (omega (arith, c.requires, abs_sfits narrow, abs-add c.args.first (pos c.args.ring)))
 
-cast-result : tie.Need-overflow-cast-result
+cast-result : tie.Need-overflow_cast-result
 cast-result c = let f = narrow c in simp to_z-of_z (wide c)
 
-add-result : tie.Need-overflow-add-result
+add-result : tie.Need-overflow_add-result
 add-result c =
     let f = narrow c in
     let g = wide c in
@@ -37,5 +37,5 @@ returns c =
     let h = sum c in
     simp (to_z-of_z, to_z_pos w64 c.args.ring (place c).sfits)
 
-pub year-of-spec : {M : Type 1} → statement M
-year-of-spec = tie.close (tie.spec cast-result (λ c. search rules) add-result returns)
+pub year_of_spec : {M : Type 1} → statement M
+year_of_spec = tie.close (tie.spec cast-result (λ c. search rules) add-result returns)

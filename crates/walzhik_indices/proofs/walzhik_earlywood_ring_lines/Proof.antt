@@ -8,10 +8,10 @@ use Rattle.walzhik_indices.proofs.walzhik_earlywood_ring_lines.Tie as tie
 
 returns : tie.Need-returns
 returns c =
-    let k = c.before.before.before in
-    let f = k.before.before.before.before.ranges.first in
-    let b = simp to_z-of_z at k.ring-lines.ensures in
-    (c.reply-of.ensures ∙ ap replied b.0, b.1)
+    let k = c in
+    let f = k.ranges.first in
+    let b = simp to_z-of_z at k.ring_lines-answer.ensures in
+    (c.reply_of.ensures ∙ ap replied b.0, b.1)
 
-pub walzhik-earlywood-ring-lines-spec : {M : Type 1} → statement M
-walzhik-earlywood-ring-lines-spec = tie.close (tie.spec (λ c κs. search rules) (λ c κs. search rules) (λ c. search rules) returns)
+pub walzhik_earlywood_ring_lines_spec : {M : Type 1} → statement M
+walzhik_earlywood_ring_lines_spec = tie.close (tie.spec (λ c κs. search rules) (λ c κs. search rules) (λ c. search rules) returns)
