@@ -101,8 +101,8 @@ def self_test():
     """Each kind of fault is found."""
     row = "| nodes-rise | x | theorems_nodes: Nodes |\n"
     wrong = {row.replace("nodes-rise", "nodes_fall"): "no proof `pub nodes_fall : NodesFall` in theorems_nodes",
-             row.replace("nodes-rise", "middle-nodes-are-formulas"):
-                 "no proof `pub middle-nodes-are-formulas : MiddleNodesAreFormulas` in theorems_nodes",
+             row.replace("nodes-rise", "middle-nodes-are-lines"):
+                 "no proof `pub middle-nodes-are-lines : MiddleNodesAreLines` in theorems_nodes",
              row.replace("theorems_nodes", "theorems_lines"): "no proof `pub nodes-rise : NodesRise` in theorems_lines",
              row.replace("nodes-rise", "low_orders_are_built").replace("theorems_nodes: Nodes", "theorems_acceptance: Acceptance"):
                  "low_orders_are_built has no instance",
