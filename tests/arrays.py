@@ -21,7 +21,7 @@ CALL = "walzhik::walzhik_build"
 LIMIT = 144
 NUMBERS = {"u8", "u16", "u32", "u64", "usize", "i8", "i16", "i32", "i64", "isize", "f32", "f64", "bool"}
 BYTES = r"b\"(?:[^\"\\]|\\.)*\""
-LEFT_OUT = re.compile(rf"(?P<bytes>{BYTES})|(?P<byte>b'(?:[^'\\]|\\.)*')|⌜.*?⌝|//[^\n]*", re.S)
+LEFT_OUT = re.compile(rf"(?P<bytes>{BYTES})|(?P<byte>\bb'(?:[^'\\]|\\x[0-9a-fA-F]{{2}}|\\.)')|//[^\n]*", re.S)
 BYTE = re.compile(r"\\x[0-9a-fA-F]{2}|\\[nrt0\\'\"]|[^\\]", re.S)
 TOKEN = re.compile(
     BYTES + r"|'[A-Za-z_]\w*|[A-Za-z_]\w*(?:::[A-Za-z_]\w*)*|[0-9][0-9_]*(?:[iu](?:8|16|32|64|size))?|[^\s\w]", re.S
@@ -80,15 +80,31 @@ def reached(listed: dict[str, list[str]], crates: Iterable[str]) -> list[str]:
 
 
 def tokens_of(text: str) -> list[str]:
-    """The code's tokens; a byte is a number, a byte string, a label and a path are one token each.
+    """The code's tokens, without contracts; a byte is a number, a byte string, a label and a path are one token each.
 
     Examples
     --------
     >>> tokens_of("break 'found [b'a'; build_cells::ROW_CELLS]; // a row")
     ['break', "'found", '[', '0', ';', 'build_cells::ROW_CELLS', ']', ';']
+    >>> tokens_of("fn f() requires low { a ≡ [] } ensures { record { num = [x; 400] } ≡ b' } { g() }")
+    ['fn', 'f', '(', ')', '{', 'g', '(', ')', '}']
     """
     code = LEFT_OUT.sub(lambda found: found["bytes"] or ("0" if found["byte"] else " "), text)
-    return TOKEN.findall(code)
+    return without_contracts(TOKEN.findall(code))
+
+
+def without_contracts(tokens: list[str]) -> list[str]:
+    """The tokens without clauses: `requires` or `ensures`, perhaps a name, and what stands in braces."""
+    left: list[str] = []
+    place = 0
+    while place < len(tokens):
+        opened = next((at for at in (place + 1, place + 2) if tokens[at : at + 1] == ["{"]), None)
+        if tokens[place] in CLAUSES and opened is not None:
+            place = matching(tokens, opened) + 1
+        else:
+            left.append(tokens[place])
+            place += 1
+    return left
 
 
 def matching(tokens: list[str], start: int) -> int:
@@ -115,33 +131,58 @@ def split_at(tokens: list[str], mark: str) -> list[list[str]]:
 
 
 def item_end(tokens: list[str], start: int) -> int:
-    """Past the last token of the item at start: its semicolon, or the bracket of its body, which no contract's is."""
-    place, clause = start, False
+    """Past the last token of the item at start: its semicolon, or the bracket of its body; an import's braces are no body."""
+    place, body = start, True
     while place < len(tokens):
         token = tokens[place]
         if token in CLOSING:
             place = matching(tokens, place)
-            if token == "{" and not clause:
+            if token == "{" and body:
                 break
-            clause = clause and token != "{"
         elif token == ";":
             break
-        clause = clause or token in CLAUSES
+        body = body and token != "use"
         place += 1
     return place + 1
+
+
+def attributes_end(tokens: list[str], start: int) -> int:
+    """Past the attributes of a file or of the item at start."""
+    while tokens[start : start + 1] == ["#"]:
+        start = matching(tokens, start + 1 + (tokens[start + 1] == "!")) + 1
+    return start
+
+
+def imported(tokens: list[str]) -> list[str]:
+    """The paths of an import.
+
+    Examples
+    --------
+    >>> imported(tokens_of("use base_outcome::{Found, codes};"))
+    ['base_outcome::Found', 'base_outcome::codes']
+    >>> imported(tokens_of("pub use base_outcome::limits;"))
+    ['base_outcome::limits']
+    """
+    path, *rest = tokens[tokens.index("use") + 1 :]
+    if rest == [";"]:
+        return [path]
+    names = split_at(rest[3:-2], ",")
+    if rest[:3] != [":", ":", "{"] or rest[-2:] != ["}", ";"] or not all(len(name) == 1 for name in names if name):
+        raise Uncounted(f"an import of all of a module, or under another name: {' '.join(tokens)}")
+    return [f"{path}::{name[0]}" for name in names if name]
 
 
 def items_of(crate: str, path: Path) -> Iterator[Item]:
     """The items of a file, without what only contracts use."""
     tokens = tokens_of(path.read_text())
-    start = 0
+    start = attributes_end(tokens, 0)
     while start < len(tokens):
         end = item_end(tokens, start)
         item = tokens[start:end]
         kind = next((place for place, token in enumerate(item) if token in KINDS), None)
         if kind is not None and item[0] != "ghost":
             yield Item(crate, path, item[kind], item[kind + 1], item)
-        start = end
+        start = attributes_end(tokens, end)
 
 
 def bytes_in(token: str) -> int:
@@ -178,9 +219,8 @@ class Source:
                     raise Uncounted(f"crate {item.crate} gives the name {item.name} twice")
                 self.named[item.crate, item.name] = item
             if item.kind == "use":
-                if len(item.tokens) > item.tokens.index("use") + 3:
-                    raise Uncounted(f"an import of more than one name, or under another, in {item.path}")
-                self.imports[item.path, item.name.rpartition("::")[2]] = self.owner(item, item.name)
+                for name in imported(item.tokens):
+                    self.imports[item.path, name.rpartition("::")[2]] = self.owner(item, name)
 
     def owner(self, item: Item, path: str) -> tuple[str, str]:
         """The crate and the name that a path in an item stands for."""
@@ -188,6 +228,8 @@ class Source:
         name = path.rpartition("::")[2]
         if not rest and (item.path, name) in self.imports:
             return self.imports[item.path, name]
+        if rest and first not in self.listed and (item.path, first) in self.imports:
+            return self.imports[item.path, first][0], name
         return (first, name) if rest and first in self.listed else (item.crate, name)
 
     def find(self, item: Item, path: str, *kinds: str) -> Item | None:
@@ -286,6 +328,8 @@ class Source:
 def is_array(tokens: list[str], place: int) -> bool:
     """Neither an index, a part of a slice, a slice's type nor an attribute."""
     before = tokens[place - 1] if place else ""
+    if before.startswith("'") and tokens[place - 2] == "&":
+        before = "&"
     value = before in (")", "]", "#") or re.match(r"\w", before) is not None
     if value and before not in KEYWORDS | {"mut"}:
         return False

@@ -104,6 +104,25 @@ WRONG = [
         in_build(f"let held = [{', '.join(['b' + chr(39) + 'a' + chr(39)] * LONG)}];"),
         f"{LONG} numbers",
     ),
+    Wrong(
+        "a length that is imported among others",
+        [
+            *in_build("let held = [0; 6 * ROW_CELLS];"),
+            Line(BUILD, "", "use base_fraction::{Counted, arrays::ROW_CELLS};\n"),
+        ],
+        f"432 numbers in {BUILD}",
+    ),
+    Wrong(
+        "a length of a module that is imported",
+        [*in_build("let held = [0; 6 * arrays::ROW_CELLS];"), Line(BUILD, "", "use base_fraction::arrays;\n")],
+        f"432 numbers in {BUILD}",
+    ),
+    Wrong("an import of all of a module", [Line(BUILD, "", "use base_fraction::arrays::*;\n")], "can't be counted"),
+    Wrong(
+        "an array behind a contract",
+        [Line(BUILD, "", f"\nfn more()\n    ensures held {{ [] ≡ [] }}\n{{\n    let held = [0; {LONG}];\n}}\n")],
+        f"{LONG} numbers in {BUILD}",
+    ),
     Wrong("a static", [Line(BUILD, "", "\nstatic HELD: u64 = 0;\n")], "a static"),
     Wrong("a length that can't be told", in_build("let held = [0; other(3)];"), "can't be counted"),
 ]

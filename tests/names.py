@@ -18,7 +18,7 @@ PAGES = ("*.md", "docs/*.md", "tests/*.md")
 # Words that look like names of the tree and are none.
 FOREIGN = {"dask-scheduler", "dask-worker", "apt-get", "curve_rust"}
 # The kit's crates, which comments name.
-KIT = {"io", "libc"}
+KIT = {"std"}
 FLOORS = "base|spec|theorems|build|curve|recover|indices|sheet|tucson|walzhik"
 FILES = r"[A-Z]\w*(?:, [A-Z]\w*)*"
 
@@ -137,7 +137,7 @@ def item_paths(text: str, crates: set[str], words: set[str], outside: set[str]) 
 
 def floor_words(text: str, crates: set[str], words: set[str]) -> list[str]:
     """Words that begin as a crate's name does are crates, or functions and files of the tree."""
-    found = re.findall(rf"(?<![\w:/.-])(?:{FLOORS})_[a-z_]+\b(?!\.)", text)
+    found = re.findall(rf"(?<![\w:/.-])(?:{FLOORS})_[a-z_]+\b(?!\.)(?:-\w[\w-]*)?", text)
     return [f"nothing is named {name}" for name in found if name not in words | crates | FOREIGN]
 
 
@@ -188,9 +188,10 @@ def comment_faults(crate: str, text: str, crates: set[str], words: set[str]) -> 
 def self_test(crates: set[str], words: set[str]) -> int:
     """Each kind of wrong name is found, and a right row is not."""
     wrong = {
-        "| column-sums-one | x | theorem_weights: PartitionOfUnity |": "no crate theorem_weights",
-        "| column-sums-one | x | theorems_weights: Partition |": "theorems_weights: no file Partition",
-        "| column-sums-two | x | theorems_weights: PartitionOfUnity |": "theorems_weights: no theorem column-sums-two",
+        "| column_sums_one | x | theorem_weights: PartitionOfUnity |": "no crate theorem_weights",
+        "| column_sums_one | x | theorems_weights: Partition |": "theorems_weights: no file Partition",
+        "| column_sums_two | x | theorems_weights: PartitionOfUnity |": "theorems_weights: no theorem column_sums_two",
+        "| nodes_rise | x | theorems_nodes: Nodes |": "theorems_nodes: no theorem nodes_rise",
         "| build_space: Machine; walzhik_reply: Machines | x |": "walzhik_reply: no file Machines",
         "In crate spec_spline:\n\n| File | x |\n|---|---|\n| Space, Steps | x |\n": "spec_spline: no file Steps",
         "In crate spec_spline:\n\n| File | x |\n|---|---|\n| Size (base_fraktion) | x |\n": "no crate base_fraktion",
@@ -199,7 +200,9 @@ def self_test(crates: set[str], words: set[str]) -> int:
         "`build::bild`": "no build::bild",
         "`cut-recoverd`": "nothing is named cut-recoverd",
         "crate base_exakt": "no crate base_exakt",
+        "`floorDiv`": "nothing is named floorDiv",
         "what build_row_s holds": "nothing is named build_row_s",
+        "what curve_cells-sum-to-one states": "nothing is named curve_cells-sum-to-one",
     }
     missed = [text for text, fault in wrong.items() if fault not in page_faults("x.md", text, crates, words)]
     comments = {
@@ -208,7 +211,8 @@ def self_test(crates: set[str], words: set[str]) -> int:
         "-- as spec_splin says": "nothing is named spec_splin",
     }
     missed += [text for text, fault in comments.items() if fault not in comment_faults("build", text, crates, words)]
-    right = page_faults("x.md", "| column-sums-one | x | theorems_weights: PartitionOfUnity |", crates, words)
+    right = page_faults("x.md", "| column_sums_one | x | theorems_weights: PartitionOfUnity |", crates, words)
+    right += page_faults("x.md", "| nodes-rise | curve_cells-sum_to_one | theorems_nodes: Nodes |", crates, words)
     right += comment_faults(
         "spec_spline", "-- `build::build`, proofs/Cases and theorems_acceptance, specs/Acceptance", crates, words
     )

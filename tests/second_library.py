@@ -16,7 +16,7 @@ from pathlib import Path
 from typing import NamedTuple
 
 FIRST_LIBRARY = "walzhik"
-KIT = {"std", "io"}
+KIT = {"std"}
 WITHIN = {"crate", "self", "super"}
 DEFINITIONS_AND_LAWS = (
     r"base_exact\.(specs|proofs)",
@@ -90,11 +90,12 @@ ALLOWED = {
         (*DEFINITIONS_AND_LAWS, r"indices\.specs", r"walzhik_reply\.specs"),
     ),
 }
-CONTRACT_OR_COMMENT = re.compile(r"⌜.*?⌝|//[^\n]*|b\"(?:[^\"\\]|\\.)*\"|b'(?:[^'\\]|\\.)*'", re.S)
+BYTES_OR_COMMENT = re.compile(r"//[^\n]*|\bb\"(?:[^\"\\]|\\.)*\"|\bb'(?:[^'\\]|\\x[0-9a-fA-F]{2}|\\.)'", re.S)
+CLAUSE = re.compile(r"\b(?:requires|ensures)\b(?:\s+\w+)?\s*\{")
 GHOST = re.compile(r"^\s*ghost\s+use\s[^;]*;", re.M)
 USE = re.compile(r"^\s*(?:pub\s+)?use\s+([^;]*);", re.M)
 PATH = re.compile(r"[A-Za-z_]\w*(?:\s*::\s*[A-Za-z_]\w*)+")
-MODULE = re.compile(r"Rattle·([\w·]+(?:\.[^\s.{}();,]+)*)")
+MODULE = re.compile(r"\bRattle\.(\w+(?:\.[^\s.{}();,]+)*)")
 COMMENT_LINE = re.compile(r"(?:--|//)[^\n]*")
 
 
@@ -116,6 +117,24 @@ def reached(listed: dict[str, list[str]], crate: str) -> set[str]:
     return found
 
 
+def code_of(text: str) -> str:
+    """A source file without comments, bytes and contracts.
+
+    Examples
+    --------
+    >>> code_of("fn f() -> u8 ensures low { record { x = y } ≡ b::c } { b'}' }").split()
+    ['fn', 'f()', '->', 'u8', '{', '}']
+    """
+    code = BYTES_OR_COMMENT.sub(" ", text)
+    while clause := CLAUSE.search(code):
+        end, depth = clause.end(), 1
+        while depth and end < len(code):
+            depth += (code[end] == "{") - (code[end] == "}")
+            end += 1
+        code = f"{code[: clause.start()]} {code[end:]}"
+    return code
+
+
 def foreign_calls(text: str, own: set[str], allowed: frozenset[str]) -> Iterator[str]:
     """The functions of other crates that a source file names, without those allowed.
 
@@ -126,11 +145,13 @@ def foreign_calls(text: str, own: set[str], allowed: frozenset[str]) -> Iterator
     --------
     >>> list(foreign_calls("let a = curve::curve(x); let b = build::build(y);", set(), frozenset({"curve::curve"})))
     ['the call build::build']
+    >>> list(foreign_calls("fn f() ensures { a } { build::build(y) }", set(), frozenset({"curve::curve"})))
+    ['the call build::build']
     >>> list(foreign_calls("if n < build_cells::TABLE_CELLS { return Answer::Refused(1, 0); }", set(), frozenset()))
     []
     """
     inside = KIT | WITHIN | own
-    code = CONTRACT_OR_COMMENT.sub(" ", GHOST.sub(" ", text))
+    code = code_of(GHOST.sub(" ", text))
     for imported in USE.findall(code):
         if re.split(r"\W", imported.strip(), maxsplit=1)[0] not in inside:
             yield f"the import {' '.join(imported.split())}: write the path where it is used"
@@ -146,13 +167,13 @@ def foreign_modules(text: str, crate: str, allowed: tuple[str, ...]) -> Iterator
 
     Examples
     --------
-    >>> list(foreign_modules("use Rattle·curve.proofs.Parts.{held}", "indices", (r"curve\\.specs",)))
+    >>> list(foreign_modules("use Rattle.curve.proofs.Parts.{held}", "indices", (r"curve\\.specs",)))
     ['the module curve.proofs.Parts']
-    >>> list(foreign_modules("use Rattle·indices·specs.specs.Rings.{here}", "indices", ()))
+    >>> list(foreign_modules("use Rattle.indices.specs.Rings.{here}", "indices", ()))
     []
     """
     for module in MODULE.findall(COMMENT_LINE.sub(" ", text)):
-        owner = re.split(r"[·.]", module, maxsplit=1)[0]
+        owner = module.partition(".")[0]
         if owner != crate and owner not in KIT and not any(re.match(rf"{one}(\.|$)", module) for one in allowed):
             yield f"the module {module}"
 

@@ -30,13 +30,13 @@ WRONG = [
     Wrong(
         "crates/indices/proofs/Call.antt",
         "\n",
-        "use Rattle·curve.proofs.Parts.{held}\n",
+        "use Rattle.curve.proofs.Parts.{held}\n",
         "the module curve.proofs.Parts",
     ),
     Wrong(
         "crates/indices/src/lib.rt",
         "\n",
-        "ghost use Rattle·curve_triangle.specs.Value;\n",
+        "ghost use Rattle.curve_triangle.specs.Value;\n",
         "the module curve_triangle.specs.Value",
     ),
     Wrong(

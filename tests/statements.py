@@ -2,8 +2,8 @@
 
 usage: statements.py [--self-test]
 
-The theorem raised-cells of a crate is `pub raised-cells : RaisedCells` in its
-proofs/, and RaisedCells is a definition of its specs/. It is applied in a file
+The theorem close_cells of a crate is `pub close_cells : CloseCells` in its
+proofs/, and CloseCells is a definition of its specs/. It is applied in a file
 of instances, or the page's second table of instances names the file that meets
 its hypotheses. No paragraph of the page is longer than six lines. --self-test
 shows that each kind of fault is found.
@@ -32,8 +32,8 @@ def sources(pattern):
 
 
 def statement_name(theorem):
-    """The statement of a theorem: raised-cells has RaisedCells."""
-    return OTHER_NAMES.get(theorem) or "".join(word[0].upper() + word[1:] for word in theorem.split("-"))
+    """The statement of a theorem: close_cells has CloseCells, and so has close-cells."""
+    return OTHER_NAMES.get(theorem) or "".join(word[0].upper() + word[1:] for word in re.split("[-_]", theorem))
 
 
 def theorems(page):
@@ -100,10 +100,12 @@ def faults(page):
 def self_test():
     """Each kind of fault is found."""
     row = "| nodes-rise | x | theorems_nodes: Nodes |\n"
-    wrong = {row.replace("nodes-rise", "nodes-fall"): "no proof `pub nodes-fall : NodesFall` in theorems_nodes",
+    wrong = {row.replace("nodes-rise", "nodes_fall"): "no proof `pub nodes_fall : NodesFall` in theorems_nodes",
+             row.replace("nodes-rise", "middle-nodes-are-lines"):
+                 "no proof `pub middle-nodes-are-lines : MiddleNodesAreLines` in theorems_nodes",
              row.replace("theorems_nodes", "theorems_lines"): "no proof `pub nodes-rise : NodesRise` in theorems_lines",
-             row.replace("nodes-rise", "low-orders-are-built").replace("theorems_nodes: Nodes", "theorems_acceptance: Acceptance"):
-                 "low-orders-are-built has no instance",
+             row.replace("nodes-rise", "low_orders_are_built").replace("theorems_nodes: Nodes", "theorems_acceptance: Acceptance"):
+                 "low_orders_are_built has no instance",
              row + "\n| Statements | Their hypotheses are met by |\n|---|---|\n| nodes-rise | theorems_nodes: Instances |\n":
                  "nodes-rise has an instance, and a row that says it has none",
              row + "\n| Statements | Their hypotheses are met by |\n|---|---|\n| nodes-fell | theorems_nodes: Instances |\n":

@@ -3,7 +3,7 @@
 from __future__ import annotations
 
 import pytest
-from building import archives_at_rest, ended, python
+from building import ROOT, archives_at_rest, ended, python
 
 CHECKS = {
     "names": ["tests/names.py"],
@@ -31,7 +31,12 @@ def test_text(check: str) -> None:
 
 def test_layout_of_the_crates() -> None:
     """Every file of the crates is in the kit's layout."""
-    ended(["rt", "fmt", "--check"])
+    files = [
+        *ROOT.glob("crates/*/src/**/*.rt"),
+        *ROOT.glob("crates/*/specs/**/*.antt"),
+        *ROOT.glob("crates/*/proofs/**/*.antt"),
+    ]
+    ended(["rattle", "fmt", "--check", *files])
 
 
 @pytest.mark.parametrize("script", ["version", "manual"])
