@@ -15,6 +15,7 @@ import re
 import sys
 from pathlib import Path
 
+from layout_left import beyond
 from names import status_of
 
 ROOT = Path(__file__).resolve().parent.parent
@@ -87,10 +88,11 @@ def main() -> int:
         return self_test()
     paths = sorted(ROOT.glob("crates/*/proofs/**/*.antt"))
     found = [
-        f"{path.relative_to(ROOT)}:{line}: a chain of more than {LONGEST} .before has no name"
+        (str(path.relative_to(ROOT)), f"{path.relative_to(ROOT)}:{line}: a chain of more than {LONGEST} .before has no name")
         for path in paths
         for line in unnamed(path.read_text(encoding="utf-8"))
     ]
+    found = beyond("proofs_layout", found)
     return status_of(found, f"layout of the proofs: {len(paths)} files")
 
 

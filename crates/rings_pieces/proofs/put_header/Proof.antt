@@ -6,7 +6,7 @@ use Rattle.rings_pieces.proofs.put_header.Statement.{statement}
 use Rattle.rings_pieces.proofs.put_header.Tie as tie
 
 returns : tie.Need-returns
-returns c = puts_whole refl c.before.before.put-text.ensures
+returns c = puts_whole refl c.put_text.ensures
 
-pub put-header-spec : {M : Type 1} → statement M
-put-header-spec = tie.close (tie.spec (λ c. search rules) (λ c κs. search rules) (λ c. search rules) returns)
+pub put_header_spec : {M : Type 1} → statement M
+put_header_spec = tie.close (tie.spec (λ c κs. search rules) (λ c. search rules) returns)

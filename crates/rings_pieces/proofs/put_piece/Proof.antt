@@ -29,7 +29,7 @@ module _ (s : tie.Start) where
   start = s.args.start
 
   abbrev it : Series
-  it = series_at s.pre.held.made.series k
+  it = series_at s.requires.held.made.series k
 
   abbrev names : List ℕ
   names = s.args.names.now
@@ -41,53 +41,53 @@ module _ (s : tie.Start) where
   widths = s.args.widths.now
 
   count : get_or counts k 0 ≡ length it.widths
-  count = count_is s.pre.held s.pre.turn
+  count = count_is s.requires.held s.requires.turn
 
   part-fits : start + get_or counts k 0 ≤ length widths
-  part-fits = omega (arith, count, widths_fit s.pre.held s.pre.turn)
+  part-fits = omega (arith, count, widths_fit s.requires.held s.requires.turn)
 
   part_small : start + get_or counts k 0 ≤ 174762
-  part_small = omega (arith, part-fits, s.pre.few)
+  part_small = omega (arith, part-fits, s.requires.few)
 
   name : take (k * 8 + 8 - k * 8) (drop (k * 8) names) ≡ it.name
-  name = ap (λ (j : ℕ). take j (drop (k * 8) names)) (let e : k * 8 + 8 - k * 8 ≡ 8 = omega arith in e) ∙ name_is s.pre.held s.pre.turn
+  name = ap (λ (j : ℕ). take j (drop (k * 8) names)) (let e : k * 8 + 8 - k * 8 ≡ 8 = omega arith in e) ∙ name_is s.requires.held s.requires.turn
 
   part : take (start + get_or counts k 0 - start) (drop start widths) ≡ it.widths
   part =
       ap (λ (j : ℕ). take j (drop start widths)) (let e : start + get_or counts k 0 - start ≡ length it.widths = omega (arith, count) in e)
-      ∙ widths_are s.pre.held s.pre.turn
+      ∙ widths_are s.requires.held s.requires.turn
 
-cast-end : tie.Need-overflow-cast-end
-cast-end c = let s = c.before.before.before.before.before in omega (arith, c.shared-slice-known4.given (k s))
+cast-end : tie.Need-overflow_cast-end
+cast-end c = let s = c in omega (arith, c.shared_slice_known-4-1.given (k s.before.before.before.before.before))
 
-add-end : tie.Need-overflow-add-end
-add-end c = let s = c.before.before.before.before.before in omega (arith, part_small s)
+add-end : tie.Need-overflow_add-end
+add-end c = let s = c in omega (arith, part_small s.before.before.before.before.before)
 
-mul-put-series-2 : tie.Need-overflow-mul-put-series-2
-mul-put-series-2 c = let s = c.before.before.before.before.before.before.before in omega (arith, part_small s)
+mul-put-series-2 : tie.Need-offset_bounds-widths-start
+mul-put-series-2 c = let s = c in omega (arith, part_small s.before.before.before.before.before.before.before)
 
-part-put-series-end-2 : tie.Need-slice-bounds-put-series-end-2
-part-put-series-end-2 c = let s = c.before.before.before.before.before.before.before in let h = part-fits s in search rules
+part-put-series-end-2 : tie.Need-slice_bounds-put_series-end-2
+part-put-series-end-2 c = let s = c in let h = part-fits s.before.before.before.before.before.before.before in search rules
 
-put-series-requires : tie.Need-put-series-requires
+put-series-requires : tie.Need-put_series-requires
 put-series-requires c κs =
-    let s = c.before.before.before.before.before.before.before.before.before in
+    let s = c in
     record {
       fitting = fits s.requires.held s.requires.turn;
-      named = subst (λ (t : Text). is_name t ≡ true) (sym (name s)) (name-named s.requires.held s.requires.turn);
+      named = subst (λ (t : Text). is_name t ≡ true) (sym (name s.before.before.before.before.before.before.before.before.before)) (name-named s.requires.held s.requires.turn);
       room = s.requires.room;
     }
 
 returns : tie.Need-returns
 returns c =
-    let s = c.before.before.before.before.before.before.before.before.before.before.before.before in
-    let f : SFits w32 (get_or s.args.years.now (k s) (pos 0)) = search rules in
-    subst (λ (t : Text). Front t c.before.before.put-series.result c.before.before.put-series.new.1.1.1.1.1.1.1.1.0)
-    (text_is s.requires.held s.requires.turn (name s) (year_is s.requires.held s.requires.turn) (part s))
-    (simp to_z-of_z at c.before.before.put-series.ensures)
+    let s = c in
+    let f : SFits w32 (get_or s.args.years.now (k s.before.before.before.before.before.before.before.before.before.before.before.before) (pos 0)) = search rules in
+    subst (λ (t : Text). Front t c.put_series.result c.put_series.new.out)
+    (text_is s.requires.held s.requires.turn (name s.before.before.before.before.before.before.before.before.before.before.before.before) (year_is s.requires.held s.requires.turn) (part s.before.before.before.before.before.before.before.before.before.before.before.before))
+    (simp to_z-of_z at c.put_series.ensures)
 
-pub put-piece-spec : {M : Type 1} → statement M
-put-piece-spec =
+pub put_piece_spec : {M : Type 1} → statement M
+put_piece_spec =
     tie.close
     (tie.spec
     (λ c. search rules)

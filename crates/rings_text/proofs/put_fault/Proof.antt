@@ -23,10 +23,10 @@ put-name-requires c κs =
 
 -- the name, where it has been put
 module _ (k : tie.After-put_name-a) where
-  room : 118 ≤ length k.put_name-a.new.0
-  room = omega (arith, k.put_name-a.auto.0, k.requires.room)
+  room : 118 ≤ length k.put_name-a.new.out
+  room = omega (arith, k.put_name-a.auto.out, k.requires.room)
 
-  front : Front (name_text k.args.name.now) k.put_name-a.result k.put_name-a.last.0
+  front : Front (name_text k.args.name.now) k.put_name-a.result k.put_name-a.new.out
   front = record { fits = omega (arith, room, k.put_name-a.ensures.within); is = k.put_name-a.ensures.is }
 
 returns : tie.Need-returns
@@ -54,7 +54,6 @@ put_fault_spec =
     put-name-requires
     (λ c κs. search rules)
     (λ c κs. search rules)
-    (λ c. search rules)
     (λ c κs. search rules)
     (λ c κs. search rules)
     (λ c κs. search rules)

@@ -138,15 +138,15 @@ put-lines-requires c κs =
 returns : tie.Need-returns-in-Refused
 returns c =
     let k = c in let f = fits-year k.before.before.before.before.before.before.before.before.before.before.before in
-    let a = c.answer in let r = c.fault_ring-ring in
+    let r = c.fault_ring-ring in
     let y = c.year_of-year in
     let g : SFits w64 y.result = record { sfits = y.type_inv } in
     let e : y.result ≡ year k.before.before.before.before.before.before.before.before.before.before.before +ℤ pos r.result = simp to_z-of_z at y.ensures in
     subst (λ (t : Text). Front t c.put_fault.result c.put_fault.new.out)
-    (ap (λ (z : ℤ). fault_line (name k.before.before.before.before.before.before.before.before.before.before.before) z a.given.0.0)
+    (ap (λ (z : ℤ). fault_line (name k.before.before.before.before.before.before.before.before.before.before.before) z c.in-Refused.code)
     (e ∙ ap (λ (j : ℕ). year k.before.before.before.before.before.before.before.before.before.before.before +ℤ pos j) r.ensures)
     ∙ refused_text (wood k.before.before.before.before.before.before.before.before.before.before.before) (curve k.before.before.before.before.before.before.before.before.before.before.before) (coefs k.before.before.before.before.before.before.before.before.before.before.before) (name k.before.before.before.before.before.before.before.before.before.before.before) (year k.before.before.before.before.before.before.before.before.before.before.before) (widths k.before.before.before.before.before.before.before.before.before.before.before) (few k.before.before.before.before.before.before.before.before.before.before.before) values ring-indices values-long indices-long
-    k.indices-answer.result (replies k.before.before.before.before.before.before.before.before.before.before.before) a.given.1)
+    k.indices-answer.result (replies k.before.before.before.before.before.before.before.before.before.before.before) c.in-Refused.is)
     (simp to_z-of_z at c.put_fault.ensures)
 
 returns-2 : tie.Need-returns-in-Count

@@ -31,7 +31,7 @@ module _ (k : tie.After-ring_lines-lines) where
   abbrev out : List ℕ
   out = start.args.out.now
 
-  ends : (reply k.ring_lines-lines.result ≡ (ring_lines_end wood series out).answers) × (k.ring_lines-lines.last.1.1.1.1.1.1.0 ≡ (ring_lines_end wood series out).text)
+  ends : (reply k.ring_lines-lines.result ≡ (ring_lines_end wood series out).answers) × (k.ring_lines-lines.new.out ≡ (ring_lines_end wood series out).text)
   ends = let f : SFits w32 start.args.first = start.ranges.first in simp to_z-of_z at k.ring_lines-lines.ensures
 
 returns : tie.Need-returns-in-Refused

@@ -22,7 +22,7 @@ returns c =
     let y = c.year_of-year in
     let g : SFits w64 y.result = record { sfits = y.type_inv } in
     let e : y.result ≡ x.first +ℤ pos 4096 = simp to_z-of_z at y.ensures in
-    subst (λ (t : Text). Front t c.put_fault.result c.put_fault.new.1.1.1.0)
+    subst (λ (t : Text). Front t c.put_fault.result c.put_fault.new.out)
     (ap (λ (z : ℤ). fault_line x.name.now z 2) e
     ∙ many_text (wood_of x.wood) (space x.breaks.now x.degrees.now x.orders.now) x.coefs.now
     x.name.now x.first x.widths.now s.requires.fitting many)

@@ -6,8 +6,8 @@ use Rattle.walzhik.proofs.walzhik_build.Statement.{statement}
 use Rattle.walzhik.proofs.walzhik_build.Tie as tie
 
 returns : tie.Need-returns
-returns c = let b = c.before.before.before.build.ensures in (c.reply-of.ensures ∙ ap replied b.0, b.1)
+returns c = let b = c.build-built.ensures in (c.reply_of.ensures ∙ ap replied b.0, b.1)
 
-pub walzhik-build-spec : {M : Type 1} → statement M
-walzhik-build-spec =
+pub walzhik_build_spec : {M : Type 1} → statement M
+walzhik_build_spec =
     tie.close (tie.spec (λ c κs. search rules) (λ c κs. search rules) (λ c. search rules) (λ c. search rules) returns)

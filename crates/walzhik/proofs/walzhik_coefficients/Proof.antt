@@ -6,10 +6,10 @@ use Rattle.walzhik.proofs.walzhik_coefficients.Statement.{statement}
 use Rattle.walzhik.proofs.walzhik_coefficients.Tie as tie
 
 returns : tie.Need-returns
-returns c = let b = c.before.before.before.before.before.coefficients.ensures in (c.reply-of.ensures ∙ ap replied b.0, b.1)
+returns c = let b = c.coefficients-built.ensures in (c.reply_of.ensures ∙ ap replied b.0, b.1)
 
-pub walzhik-coefficients-spec : {M : Type 1} → statement M
-walzhik-coefficients-spec =
+pub walzhik_coefficients_spec : {M : Type 1} → statement M
+walzhik_coefficients_spec =
     tie.close
     (tie.spec
     (λ c κs. search rules)

@@ -6,7 +6,7 @@ use Rattle.walzhik.proofs.walzhik_curve.Statement.{statement}
 use Rattle.walzhik.proofs.walzhik_curve.Tie as tie
 
 returns : tie.Need-returns
-returns c = let b = c.before.before.before.before.curve.ensures in (c.reply-of.ensures ∙ ap replied b.0, b.1)
+returns c = let b = c.curve-answer.ensures in (c.reply_of.ensures ∙ ap replied b.0, b.1)
 
-pub walzhik-curve-spec : {M : Type 1} → statement M
-walzhik-curve-spec = tie.close (tie.spec (λ c κs. search rules) (λ c κs. search rules) (λ c. search rules) (λ c. search rules) (λ c. search rules) returns)
+pub walzhik_curve_spec : {M : Type 1} → statement M
+walzhik_curve_spec = tie.close (tie.spec (λ c κs. search rules) (λ c κs. search rules) (λ c. search rules) (λ c. search rules) (λ c. search rules) returns)

@@ -8,11 +8,11 @@ use Rattle.walzhik.proofs.walzhik_earlywood_reach.Tie as tie
 
 returns : tie.Need-returns
 returns c =
-    let k = c.before.before.before in
-    let f = k.before.before.before.ranges.width in
-    let b = simp to_z-of_z at k.reach.ensures in
+    let k = c in
+    let f = k.ranges.width in
+    let b = simp to_z-of_z at k.reach-answer.ensures in
     (c.reach_of.ensures ∙ ap reached b.0, b.1)
 
-pub walzhik-earlywood-reach-spec : {M : Type 1} → statement M
-walzhik-earlywood-reach-spec =
+pub walzhik_earlywood_reach_spec : {M : Type 1} → statement M
+walzhik_earlywood_reach_spec =
     tie.close (tie.spec (λ c κs. search rules) (λ c κs. search rules) (λ c. search rules) (λ c. search rules) returns)

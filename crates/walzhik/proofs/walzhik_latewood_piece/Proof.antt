@@ -4,7 +4,7 @@ use Rattle.walzhik.proofs.walzhik_latewood_piece.Statement.{statement}
 use Rattle.walzhik.proofs.walzhik_latewood_piece.Tie as tie
 
 returns : tie.Need-returns
-returns c = let b = c.before.before.before.piece.ensures in (c.piece_of.ensures _ b.0, b.1)
+returns c = let b = c.piece-answer.ensures in (c.piece_of.ensures _ b.0, b.1)
 
-pub walzhik-latewood-piece-spec : {M : Type 1} → statement M
-walzhik-latewood-piece-spec = tie.close (tie.spec (λ c κs. search rules) (λ c κs. search rules) (λ c. search rules) (λ c. search rules) returns)
+pub walzhik_latewood_piece_spec : {M : Type 1} → statement M
+walzhik_latewood_piece_spec = tie.close (tie.spec (λ c κs. search rules) (λ c κs. search rules) (λ c. search rules) (λ c. search rules) returns)

@@ -6,7 +6,7 @@ use Rattle.walzhik.proofs.walzhik_tucson_clean.Statement.{statement}
 use Rattle.walzhik.proofs.walzhik_tucson_clean.Tie as tie
 
 returns : tie.Need-returns
-returns c = let b = c.before.before.before.before.before.before.before.clean.ensures in (c.cleaned-of.ensures ∙ ap cleaned b.0, b.1)
+returns c = let b = c.clean-answer.ensures in (c.cleaned_of.ensures ∙ ap cleaned b.0, b.1)
 
-pub walzhik-tucson-clean-spec : {M : Type 1} → statement M
-walzhik-tucson-clean-spec = tie.close (tie.spec (λ c κs. search rules) (λ c κs. search rules) (λ c. search rules) (λ c. search rules) (λ c. search rules) returns)
+pub walzhik_tucson_clean_spec : {M : Type 1} → statement M
+walzhik_tucson_clean_spec = tie.close (tie.spec (λ c κs. search rules) (λ c κs. search rules) (λ c. search rules) (λ c. search rules) (λ c. search rules) returns)

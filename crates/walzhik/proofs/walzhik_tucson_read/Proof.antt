@@ -6,7 +6,7 @@ use Rattle.walzhik.proofs.walzhik_tucson_read.Statement.{statement}
 use Rattle.walzhik.proofs.walzhik_tucson_read.Tie as tie
 
 returns : tie.Need-returns
-returns c = let b = c.before.before.before.before.before.before.before.read.ensures in (c.reply-of.ensures ∙ ap replied b.0, b.1)
+returns c = let b = c.read-answer.ensures in (c.reply_of.ensures ∙ ap replied b.0, b.1)
 
-pub walzhik-tucson-read-spec : {M : Type 1} → statement M
-walzhik-tucson-read-spec = tie.close (tie.spec (λ c κs. search rules) (λ c κs. search rules) (λ c. search rules) (λ c. search rules) (λ c. search rules) (λ c. search rules) returns)
+pub walzhik_tucson_read_spec : {M : Type 1} → statement M
+walzhik_tucson_read_spec = tie.close (tie.spec (λ c κs. search rules) (λ c κs. search rules) (λ c. search rules) (λ c. search rules) (λ c. search rules) (λ c. search rules) returns)

@@ -6,7 +6,7 @@ use Rattle.walzhik.proofs.walzhik_tucson_write.Statement.{statement}
 use Rattle.walzhik.proofs.walzhik_tucson_write.Tie as tie
 
 returns : tie.Need-returns
-returns c = let b = c.before.before.before.write.ensures in (c.reply-of.ensures ∙ ap replied b.0, b.1)
+returns c = let b = c.write-answer.ensures in (c.reply_of.ensures ∙ ap replied b.0, b.1)
 
-pub walzhik-tucson-write-spec : {M : Type 1} → statement M
-walzhik-tucson-write-spec = tie.close (tie.spec (λ c κs. search rules) (λ c κs. search rules) (λ c. search rules) returns)
+pub walzhik_tucson_write_spec : {M : Type 1} → statement M
+walzhik_tucson_write_spec = tie.close (tie.spec (λ c κs. search rules) (λ c κs. search rules) (λ c. search rules) returns)
