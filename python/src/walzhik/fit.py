@@ -42,7 +42,7 @@ __all__ = [
     "template",
 ]
 NEAR_HALF = 1e-6  # of a thousandth: what is so near below a half is rounded up as it is, or last digits would decide
-PROVED_ORDER = 1  # up to it, coefficients that do not rise give values that do not: falling-lists-fall
+PROVED_ORDER = 1  # up to it, coefficients that do not rise give values that do not: falling_lists_fall
 
 
 @dataclass

@@ -1,6 +1,6 @@
 """Coefficients that fall, or rise once and then fall, fitted to the widths of one part of a curve: non-negative least
 squares on their differences, of deviations relative to the curve. A choice in floating point, not proved; that
-coefficients which do not rise give values which do not rise is (docs/THEOREMS.md, falling-lists-fall).
+coefficients which do not rise give values which do not rise is (docs/THEOREMS.md, falling_lists_fall).
 """
 
 from __future__ import annotations

@@ -24,7 +24,7 @@ class Reach(NamedTuple):
 
 
 def reaches(degrees: Sequence[int], orders: Sequence[int]) -> list[Reach]:
-    """For each row the stretches on which it acts (rows-that-act).
+    """For each row the stretches on which it acts (rows_that_act).
 
     Examples
     --------
@@ -41,7 +41,7 @@ def reaches(degrees: Sequence[int], orders: Sequence[int]) -> list[Reach]:
 
 
 def most_weights(orders: Sequence[int], stretch: int) -> int:
-    """How many coefficients have a say in an ordinate of a stretch, at most (weights-are-counted).
+    """How many coefficients have a say in an ordinate of a stretch, at most (weights_are_counted).
 
     Examples
     --------
@@ -52,7 +52,7 @@ def most_weights(orders: Sequence[int], stretch: int) -> int:
 
 
 def most_moved(orders: Sequence[int]) -> int:
-    """How many 256ths of a thousandth a value moves at most by one thousandth in its coefficients (close-coefficients-close-values).
+    """How many 256ths of a thousandth a value moves at most by one thousandth in its coefficients (close_coefficients_close_values).
 
     Examples
     --------
@@ -63,7 +63,7 @@ def most_moved(orders: Sequence[int]) -> int:
 
 
 def furthest(lists: sheet.Sheet) -> float:
-    """How many 256ths of a thousandth a value is from the exact curve at most, (s + p)/2 (cells-are-close).
+    """How many 256ths of a thousandth a value is from the exact curve at most, (s + p)/2 (cells_are_close).
 
     Examples
     --------
@@ -132,7 +132,7 @@ def direction_line(lists: sheet.Sheet, name: str, coefficients: Sequence[int]) -
 
 
 def index_line(name: str, coefficients: Sequence[int]) -> str | None:
-    """Up to which width an index is within 1 of the exact one: 125 w < 8 m^2 (index-is-within-one).
+    """Up to which width an index is within 1 of the exact one: 125 w < 8 m^2 (index_is_within_one).
 
     Examples
     --------
@@ -147,7 +147,7 @@ def index_line(name: str, coefficients: Sequence[int]) -> str | None:
 
 
 def end_line(lists: sheet.Sheet, name: str, coefficients: Sequence[int]) -> str:
-    """The first and the last value (first-value-is-the-first-coefficient, last-value-is-the-last-coefficient)."""
+    """The first and the last value (first-value_is_the_first-coefficient, last-value_is_the_last-coefficient)."""
     ends = (
         f"{coefficient / PER_MM:.3f} mm at ring {ring}"
         for coefficient, ring in zip(coefficients[:: len(coefficients) - 1], lists.breaks[:: len(lists.degrees)])
