@@ -15,6 +15,8 @@ CRATES = ROOT / "crates"
 SOURCES = (".antt", ".rt", ".py", ".rs", ".c", ".h", ".sh", ".R", ".js", ".tsv", ".html", ".css", ".edit")
 # Notes of the requests' landings tell what was there then: only their links are held to the tree (tests/pages.py).
 PAGES = ("*.md", "docs/*.md", "tests/*.md")
+# The page of the port sets old names beside new ones.
+OLD_NAMES = ROOT / "docs" / "PORT.md"
 # Words that look like names of the tree and are none.
 FOREIGN = {"dask-scheduler", "dask-worker", "apt-get", "curve_rust"}
 # The kit's crates, which comments name.
@@ -24,7 +26,7 @@ FILES = r"[A-Z]\w*(?:, [A-Z]\w*)*"
 
 
 def pages() -> list[Path]:
-    return sorted({path for pattern in PAGES for path in ROOT.glob(pattern)})
+    return sorted({path for pattern in PAGES for path in ROOT.glob(pattern)} - {OLD_NAMES})
 
 
 def crate_names() -> set[str]:
