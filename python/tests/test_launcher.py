@@ -113,6 +113,15 @@ def test_a_program_of_the_table_of_crates_is_built_too(checkout: Checkout) -> No
     assert status == 0 and checkout.asked() == [FIRST, *BUILDS[:2], "rings: run", *BUILDS[2:]]
 
 
+def test_a_kit_that_leaves_no_file_is_told(checkout: Checkout) -> None:
+    """All is proved, but no program is there: the set-up ends with a status that says so, and is done again by the next run."""
+    script(checkout.tools / "rt", f'#!/bin/sh\necho "${{PWD##*/}}: $*" >>"{checkout.notes}"\n')
+    status, out, err = checkout.run("explain", SHEET)
+    assert status == 2 and not out and checkout.asked() == [FIRST, BUILDS[0]]
+    assert "cannot stat 'crates/sheet/out/sheet'" in err and "failed. All that it said is in" in err
+    assert not (checkout.root / "target/lib/built").exists()
+
+
 def test_how_many_crates_at_a_time_can_be_said(checkout: Checkout, monkeypatch: pytest.MonkeyPatch) -> None:
     environment = checkout.environment() | {"RT_JOBS": "1"}
     monkeypatch.setattr(checkout, "environment", lambda: environment)
