@@ -14,6 +14,7 @@ strings, inputs and outputs are not touched. The rows that were applied are writ
 import collections
 import os
 import re
+import subprocess
 import sys
 
 TOKEN = re.compile(r'[^\s(){}.;,@"«»]+')
@@ -58,10 +59,16 @@ def of_a_function(path):
     return len(parts) > 1 and "/" in parts[-1]
 
 
-def library(kit):
+def kit():
+    """The folder of the toolchain."""
+    said = subprocess.run(["rt", "doc"], capture_output=True, text=True, check=True).stdout
+    return os.environ.get("RATTLE_KIT") or os.path.dirname(said.strip())
+
+
+def library(folder):
     """The names of the library's definitions, as far as a declaration shows them."""
     out = set()
-    for path in files(kit, ".antt", "rattle"):
+    for path in files(folder, ".antt", "rattle"):
         if "/specs/" in path:
             for line in read(path).split("\n"):
                 m = DECLARED.match(line)
@@ -97,7 +104,7 @@ def main(root="."):
             steps = m[1].split(".")
             if not (steps[0] == "Rattle" and len(steps) > 1 and steps[1] in crates):
                 foreign |= {w for w in re.split(r"[\s,]+", m[2]) if w}
-    names = {snake(n) for n in definitions} | library(os.environ.get("RATTLE_KIT", "/opt/rattle"))
+    names = {snake(n) for n in definitions} | library(kit())
 
     def dashed(name):
         parts = name.split("-")
