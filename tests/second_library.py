@@ -49,6 +49,7 @@ ALLOWED = {
     "indices": Uses(
         frozenset(
             {
+                "base_outcome::refuse_first",
                 "curve::curve",
                 "indices_rings::first_bad_ring",
                 "indices_rings::write_indices",

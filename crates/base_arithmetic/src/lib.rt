@@ -9,16 +9,16 @@ ghost use Rattle.base_fraction.specs.Size.{count};
 ghost use Rattle.base_fraction.specs.Machine.{value, answer};
 ghost use Rattle.base_arithmetic.specs.Operands.{OperandsFit, QuotientAsks};
 
-use base_fraction::{Counted, Fraction};
+use base_fraction::Fraction;
 
-pub fn product(a: Fraction, b: Fraction) -> Counted
+pub fn product(a: Fraction, b: Fraction) -> Option<Fraction>
     requires { OperandsFit a b }
     ensures { result ≡ answer (count (value a *ᵠ value b)) }
 {
     base_fraction::checked(a.num * b.num, a.den * b.den)
 }
 
-pub fn sum(a: Fraction, b: Fraction) -> Counted
+pub fn sum(a: Fraction, b: Fraction) -> Option<Fraction>
     requires { OperandsFit a b }
     ensures { result ≡ answer (count (value a +ᵠ value b)) }
 {
@@ -26,7 +26,7 @@ pub fn sum(a: Fraction, b: Fraction) -> Counted
 }
 
 // Crosswise products; the signs are turned where the new denominator is below zero.
-pub fn quotient(a: Fraction, b: Fraction) -> Counted
+pub fn quotient(a: Fraction, b: Fraction) -> Option<Fraction>
     requires { QuotientAsks a b }
     ensures { result ≡ answer (count (value a /ᵠ value b)) }
 {

@@ -11,6 +11,7 @@ pub fn gcd(a: u64, b: u64) -> u64
 {
     let mut x = a;
     let mut y = b;
+    // A `while`: Euclid's steps end where nothing is left, which the numbers themselves decide.
     while y > 0 {
         let t = x % y;
         x = y;

@@ -1,10 +1,8 @@
 -- Machine fractions and the fractions that they stand for. An operand need not be in lowest terms; an answer is.
-use Rattle.std.specs.Prelude.{zero, suc, ◌<◌, ℤ, pos, negsuc, nat_abs, ◌<ℤ◌}
+use Rattle.std.specs.Prelude.{zero, suc, ◌<◌, ℤ, pos, negsuc, nat_abs, ◌<ℤ◌, Option, Some, None}
 use Rattle.base_exact.specs.Rational.{ℚ, den, mk, int, suc_pos}
 use Rattle.base_fraction.specs.Size.{limit, Counting, counted, too_large}
 use Rattle.base_fraction.specs.declared.Fraction.{Fraction}
-use Rattle.base_fraction.specs.declared.Counted.{Counted}
-use Rattle.base_fraction.specs.declared.Counted.TheVariants.{Fits, TooLarge}
 
 -- a fraction as the machine holds it: in lowest terms, the denominator positive
 unfoldable pub fraction : ℚ → Fraction
@@ -21,9 +19,9 @@ unfoldable pub value : Fraction → ℚ
 value f = ratio f.num f.den
 
 -- a counted fraction as the machine answers it
-unfoldable pub answer : Counting ℚ → Counted
-answer (counted q) = Fits (fraction q)
-answer too_large = TooLarge
+unfoldable pub answer : Counting ℚ → Option Fraction
+answer (counted q) = Some (fraction q)
+answer too_large = None
 
 -- a machine fraction whose parts are below the limit: no operation on two of these can overflow
 pub record FractionFits (f : Fraction) : Type 0 where

@@ -14,13 +14,6 @@ pub struct Fraction {
     pub den: i64,
 }
 
-// What an operation answers: the fraction in lowest terms, if its parts are below the limit.
-#[derive(Clone, Copy)]
-pub enum Counted {
-    Fits(Fraction),
-    TooLarge,
-}
-
 // The least size that is too large: `limit` of specs/Size.
 const LIMIT: u64 = 2147483648;
 
@@ -36,17 +29,17 @@ fn lowest(n: i64, d: i64) -> Fraction
     }
 }
 
-// n over d, counted: what every operation ends with.
-pub fn checked(n: i64, d: i64) -> Counted
+// n over d, counted: what every operation ends with. The fraction in lowest terms, if its parts are below the limit.
+pub fn checked(n: i64, d: i64) -> Option<Fraction>
     requires { pos 0 <ℤ d }
     ensures { result ≡ answer (count (ratio n d)) }
 {
     let f = lowest(n, d);
     if base_division::magnitude(f.num) >= LIMIT {
-        return Counted::TooLarge;
+        return None;
     }
     if base_division::magnitude(f.den) >= LIMIT {
-        return Counted::TooLarge;
+        return None;
     }
-    Counted::Fits(f)
+    Some(f)
 }

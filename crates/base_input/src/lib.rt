@@ -19,6 +19,7 @@ pub fn read_input<R: Read>(input: &mut R, buf: &mut [u8]) -> Input
 {
     let mut done = 0;
     let mut failed = None;
+    // A `while`: the step is how many bytes a read gave.
     while done < buf.len() {
         match input.read(&mut buf[done..]) {
             Ok(0) => break,

@@ -1,25 +1,24 @@
 -- The machine's form of an outcome and of what a search finds.
-use Rattle.std.proofs.Math.Option.{Option, some, none}
-use Rattle.std.specs.Prelude.{ℕ}
+use Rattle.std.proofs.Math.Option as math
+use Rattle.std.specs.Prelude.{ℕ, Option, Some, None, Result, Ok, Err}
 use Rattle.base_outcome.specs.Outcome.{Outcome, answer, refusal}
-use Rattle.base_outcome.specs.declared.Answer.{Answer}
-use Rattle.base_outcome.specs.declared.Answer.TheVariants as answers
-use Rattle.base_outcome.specs.declared.Legality.{Legality}
-use Rattle.base_outcome.specs.declared.Legality.TheVariants.{Legal, Refused}
-use Rattle.base_outcome.specs.declared.Found.{Found}
-use Rattle.base_outcome.specs.declared.Found.TheVariants.{At, Nothing}
+use Rattle.base_outcome.specs.declared.Refusal.{Refusal}
 
--- A check that passed, or its refusal.
-unfoldable pub legality : {A : Type 0} → Outcome A → Legality
-legality (answer a) = Legal
-legality (refusal code place) = Refused code place
+-- The refusal with this code at this place.
+abbrev pub refused : ℕ → ℕ → Refusal
+refused code place = record { code = code; place = place }
 
 -- The specification's words for the cases of what a call answers.
-unfoldable pub reply : Answer → Outcome ℕ
-reply (answers.Count n) = answer n
-reply (answers.Refused code place) = refusal code place
+abbrev pub reply : {A : Type 0} → Result A Refusal → Outcome A
+reply (Ok a) = answer a
+reply (Err r) = refusal r.code r.place
+
+-- What a check tells of an outcome: that it answers, but not what; or its refusal.
+unfoldable pub passed : {A : Type 0} → Outcome A → Outcome (Unit {0})
+passed (answer a) = answer tt
+passed (refusal code place) = refusal code place
 
 -- What a search found.
-unfoldable pub found : Option ℕ → Found
-found none = Nothing
-found (some i) = At i
+unfoldable pub found : math.Option ℕ → Option ℕ
+found math.none = None
+found (math.some i) = Some i

@@ -1,14 +1,18 @@
--- Laws of a text written into a buffer: what each cell holds, texts one after the other in either order of writing, and
--- one byte as one store.
+-- Laws of a text written into a buffer: what each cell holds, texts one after the other in either order of writing,
+-- one byte as one store, and a whole text as one copy.
 use mathlib.Core.Path.{◌≡◌, refl, sym, ap, ◌∙◌}
 use mathlib.Core.Logic.{◌⊎◌, inl, inr}
-use mathlib.Core.List.{List, [], ◌∷◌, ◌++◌}
-use Prim.Native.Nat.{ℕ, ◌+◌, ◌-◌, ◌<◌, ◌≤◌}
+use mathlib.Core.List.{List, [], ◌∷◌, ◌++◌, append_assoc}
+use Prim.Native.Nat.{ℕ, suc, ◌+◌, ◌-◌, ◌<◌, ◌≤◌}
 use native.Mathlib.Nat.{zero-add}
+use native.Mathlib.Numerals.{add-one}
 use native.Mathlib.Omega.{arith}
-use lib.ListN.{length, get_or, set, length-append, length-set, get_or-append}
+use lib.ListN.{length, get_or, set, take, drop, length-append, length-set, get_or-append}
 use lib.Seq.{ext_get_or, get_or-append-add, get_or-set_same, get_or-set_other, set_out}
 use borrow.Author.Tests.{le-leb, lt-leb, lt-ltb, le-ltb}
+use borrow.Rule.Slice.PartMut.{put_mid}
+use Rattle.std.proofs.lemmas.List.Edits.{sets, sets-eq, paste_all}
+use Rattle.std.proofs.lemmas.Slice.{put_mid-paste}
 use Rattle.base_exact.proofs.Decide.{le_or_lt}
 use Rattle.base_exact.proofs.Tabulate.{tab_length, tab_get_d}
 use Rattle.base_text.specs.Bytes.{Text}
@@ -120,6 +124,23 @@ written_byte at b out = written_ext at (b ∷ []) out (set out at b) (length-set
 
 pub written-byte-past : (at b : ℕ) (out : List ℕ) → length out ≤ at → out ≡ written at (b ∷ []) out
 written-byte-past at b out h = sym (set_out out at b h) ∙ written_byte at b out
+
+-- ---- a text stored whole: byte by byte, or by one copy to a part of the buffer
+pub written_sets : (at : ℕ) (t : Text) (out : List ℕ) → sets out at t ≡ written at t out
+written_sets at [] out = written_none at out
+written_sets at (b ∷ t) out =
+    written_sets (suc at) t (set out at b)
+    ∙ ap (λ (i : ℕ). written i t (set out at b)) (sym (add-one at))
+    ∙ ap (written (at + 1) t) (written_byte at b out)
+    ∙ written_append at (b ∷ []) t out
+
+pub written_copy : (at k : ℕ) (t copy : Text) (out : List ℕ) → at + length t ≤ length out → length t ≡ k → copy ≡ t
+    → put_mid at k out copy ≡ written at t out
+written_copy at k t copy out h n e =
+    put_mid-paste at k out copy t (length t) e n refl
+    ∙ paste_all out at t (length t) refl
+    ∙ sym (sets-eq t out at h ∙ append_assoc (take at out) t (drop (at + length t) out))
+    ∙ written_sets at t out
 
 -- ---- what printing functions leave, one after the other
 pub puts_none : (at : ℕ) (out : List ℕ) → Puts 0 at [] out out at

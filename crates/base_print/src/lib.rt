@@ -25,10 +25,8 @@ pub fn put_text(out: &mut [u8], at: usize, text: &[u8]) -> usize
     ensures { Puts (length text.now) at text.now out.old out.new result }
 {
     let mut next = at;
-    let mut i = 0;
-    while i < text.len() {
-        next = put(out, next, text[i]);
-        i += 1;
+    for byte in text {
+        next = put(out, next, *byte);
     }
     next
 }
@@ -40,6 +38,7 @@ pub fn digit_count(n: u64) -> usize
 {
     let mut count = 1;
     let mut rest = n;
+    // A `while`: each turn divides a digit away, and how many there are is what is counted.
     while rest >= 10 {
         count += 1;
         rest = rest / 10;
@@ -55,6 +54,7 @@ pub fn put_digits(out: &mut [u8], at: usize, n: u64) -> usize
     let count = digit_count(n);
     let mut rest = n;
     let mut i = count;
+    // A `while`: the digits are divided away from the last one on.
     while i > 0 {
         i -= 1;
         put(out, at + i, 48 + (rest % 10) as u8);

@@ -1,40 +1,44 @@
--- Where a text is cut: one step of the search for a byte and of the comparison with a key, and what `cut`, `fields` and
--- `stripped` give once the search's index or the comparison's answer is known.
-use mathlib.Core.Path.{◌≡◌, refl, sym, ◌∙◌, ap, ap₂}
-use mathlib.Core.Bool.{Bool, true, false, cond}
+-- Where a text is cut: that the library finds a byte and compares a key as the definitions say, and what `cut`, `fields` and
+-- `stripped` give once the index or the answer is known.
+use mathlib.Core.Path.{◌≡◌, refl, ◌∙◌, ap}
+use mathlib.Core.Bool.{Bool, true, false, cond, ◌&&◌, not}
 use mathlib.Core.List.{[], ◌∷◌, ◌++◌}
 use mathlib.Core.Option.{Option, some, none, some-injective}
-use Prim.Native.Nat.{ℕ, suc, ◌+◌, ◌<◌, ◌≤◌}
-use native.Mathlib.Nat.{add_assoc}
-use native.Mathlib.Numerals.{add-one}
+use Prim.Native.Nat.{ℕ, suc, ◌<◌, ◌≤◌}
 use native.Mathlib.Omega.{arith}
-use borrow.Author.Tests.{eq-eqb, ne_eqb, eqb-true}
-use lib.Dec.{eqb}
-use lib.ListN.{length, get_or, take, drop, drop_of_length-le}
-use lib.Seq.{slice, slice_empty, drop-cons}
+use borrow.Author.Tests.{eqb-true, ltb-false}
+use lib.Dec.{eqb, ltb}
+use lib.ListN.{length, take, drop}
+use Rattle.std.proofs.Common.{Some, None}
+use Rattle.std.specs.List.{position_or_len, starts_with}
+use Rattle.std.proofs.lemmas.Bool.Decides.{nat_tests}
+use Rattle.std.proofs.lemmas.List.Recursion.{is_position_or_len}
+use Rattle.std.proofs.lemmas.List.Sums.{prefix_len-le-length}
 use Rattle.base_exact.proofs.Decide.{clash}
 use Rattle.base_text.specs.Bytes.{Text, Cut, with_byte, cut, on_first, fields_between, stripped, index_where, index_of, begins_with}
-use Rattle.base_text.proofs.Slice.{slice-step}
 
--- ---- the index of a byte
-index-here : (b c : ℕ) (cs : Text) → c ≡ b → index_of b (c ∷ cs) ≡ 0
+-- ---- the index of a byte, as a slice's `position` gives it
+index_is : (b : ℕ) (t : Text) → index_of b t ≡ position_or_len (λ c. eqb c b) t
 unfolding index_where
-index-here b c cs e = rw (eq-eqb c b e)
+index_is b t = is_position_or_len (index_of b) (λ c. eqb c b) refl (λ c cs. ap (cond (eqb c b) 0) (omega arith)) t
 
-index-past : (b c : ℕ) (cs : Text) → (c ≡ b → ⊥) → index_of b (c ∷ cs) ≡ suc (index_of b cs)
-unfolding index_where
-index-past b c cs h = rw (ne_eqb c b h)
+module _ (b : ℕ) (t : Text) where
+  abbrev place : ℕ
+  place = position_or_len (λ c. eqb c b) t
 
-module _ (b : ℕ) (text : Text) (i to : ℕ) (before : i < to) (within : to ≤ length text) where
-  pub index-found : get_or text i 0 ≡ b → index_of b (slice i to text) ≡ 0
-  index-found e = ap (index_of b) (slice-step i to text 0 before within) ∙ index-here b _ _ e
+  pub position_found : (k : ℕ) → cond (ltb place (length t)) (Some place) None ≡ Some k → index_of b t ≡ k
+  position_found k e = index_is b t ∙ go (ltb place (length t)) e
+    where
+      go : (s : Bool) → cond s (Some place) None ≡ Some k → place ≡ k
+      go true e = cc
+      go false e = clash cc
 
-  pub index-next : (get_or text i 0 ≡ b → ⊥) → index_of b (slice i to text) ≡ suc (index_of b (slice (i + 1) to text))
-  index-next h = ap (index_of b) (slice-step i to text 0 before within) ∙ index-past b _ _ h
-
-pub index_end : (b : ℕ) (text : Text) (to : ℕ) → index_of b (slice to to text) ≡ 0
-unfolding index_where
-index_end b text to = ap (index_of b) (slice_empty to text)
+  pub position_none : cond (ltb place (length t)) (Some place) None ≡ None → index_of b t ≡ length t
+  position_none e = go (ltb place (length t)) refl e
+    where
+      go : (s : Bool) → ltb place (length t) ≡ s → cond s (Some place) None ≡ None → index_of b t ≡ length t
+      go true w e = clash cc
+      go false w e = omega (arith, index_is b t, ltb-false place (length t) w, prefix_len-le-length (λ c. not (eqb c b)) t)
 
 pub index-within : (picks : ℕ → Bool) (t : Text) → index_where picks t ≤ length t
 unfolding index_where
@@ -114,40 +118,19 @@ module _ (picks : ℕ → Bool) where
       go true h ih = refl
       go false h ih = ap (on_first c) (ih (omega arith))
 
--- ---- a key at the beginning
-key-same : (p c : ℕ) (ps cs : Text) → c ≡ p → begins_with (p ∷ ps) (c ∷ cs) ≡ begins_with ps cs
+-- ---- a key at the beginning, as a slice's `starts_with` compares it
+same-test : (p c : ℕ) → eqb p c ≡ eqb c p
+same-test p c = grind (arith, nat_tests)
+
+pub starts_is : (key t : Text) → starts_with eqb t key ≡ begins_with key t
 unfolding begins_with
-key-same p c ps cs e = rw (eq-eqb c p e)
-
-key_other : (p c : ℕ) (ps cs : Text) → (c ≡ p → ⊥) → begins_with (p ∷ ps) (c ∷ cs) ≡ false
-unfolding begins_with
-key_other p c ps cs h = rw (ne_eqb c p h)
-
-module _ (key text : Text) (from i to : ℕ) (more : i < length key) (within : to ≤ length text) where
-  key_left : (t : Text) → begins_with (drop i key) t ≡ begins_with (get_or key i 0 ∷ drop (suc i) key) t
-  key_left t = ap (λ (k : Text). begins_with k t) (drop-cons key i 0 more)
-
-  key_here : from + i < to
-      → begins_with (drop i key) (slice (from + i) to text)
-      ≡ begins_with (get_or key i 0 ∷ drop (suc i) key) (get_or text (from + i) 0 ∷ slice (from + i + 1) to text)
-  key_here h = key_left _ ∙ ap (begins_with _) (slice-step (from + i) to text 0 h within)
-
-  pub key-next : from + i < to → get_or text (from + i) 0 ≡ get_or key i 0
-      → begins_with (drop i key) (slice (from + i) to text) ≡ begins_with (drop (i + 1) key) (slice (from + (i + 1)) to text)
-  key-next h e =
-      key_here h ∙ key-same _ _ _ _ e
-      ∙ ap₂ (λ (n m : ℕ). begins_with (drop n key) (slice m to text)) (sym (add-one i)) (add_assoc from i 1)
-
-  pub key-differs : from + i < to → (get_or text (from + i) 0 ≡ get_or key i 0 → ⊥) → begins_with (drop i key) (slice (from + i) to text) ≡ false
-  key-differs h e = key_here h ∙ key_other _ _ _ _ e
-
-  pub key_longer : from + i ≡ to → begins_with (drop i key) (slice (from + i) to text) ≡ false
-  unfolding begins_with
-  key_longer e = key_left _ ∙ ap (begins_with (get_or key i 0 ∷ drop (suc i) key)) (ap (λ (n : ℕ). slice n to text) e ∙ slice_empty to text)
-
-pub key_end : (key : Text) (i : ℕ) (t : Text) → length key ≤ i → begins_with (drop i key) t ≡ true
-unfolding begins_with
-key_end key i t h = ap (λ (k : Text). begins_with k t) (drop_of_length-le key h)
+starts_is [] t = refl
+starts_is (p ∷ ps) [] = refl
+starts_is (p ∷ ps) (c ∷ cs) = rw (same-test p c) (go (eqb c p) (starts_is ps cs))
+  where
+    go : (s : Bool) → starts_with eqb cs ps ≡ begins_with ps cs → (s && starts_with eqb cs ps) ≡ cond s (begins_with ps cs) false
+    go true ih = ih
+    go false ih = refl
 
 pub stripped-none : (key t : Text) → begins_with key t ≡ false → stripped key t ≡ none
 unfolding begins_with stripped

@@ -1,4 +1,4 @@
--- Digits of a part of a text, one step at a time, and the size of a number of at most seven digits.
+-- Digits of a part of a text, read one by one, and the size of a number of at most seven digits.
 use mathlib.Core.Path.{◌≡◌, refl, sym, ◌∙◌, ap}
 use mathlib.Core.Bool.{Bool, true, false, ◌&&◌, not, and-false, and-true as and-true-right}
 use mathlib.Core.List.{[], ◌∷◌}
@@ -7,8 +7,10 @@ use native.Mathlib.Nat.{mul-le-mul_right, pow-le-pow_right, pow-succ'}
 use native.Mathlib.Omega.{arith}
 use borrow.Author.Tests.{le-leb, lt-leb, lt-ltb, le-ltb, leb-true, ltb-true, not-true}
 use lib.Dec.{leb, ltb, eqb}
-use lib.ListN.{length, get_or}
+use lib.ListN.{length, get_or, drop}
 use lib.Seq.{slice, slice_empty}
+use Rattle.std.specs.List.{list_all}
+use Rattle.std.proofs.lemmas.List.{drop_more, drop_all}
 use Rattle.base_exact.proofs.Decide.{and-true}
 use Rattle.base_text.specs.Bytes.{Text, digit_zero}
 use Rattle.base_text.specs.Numeral.{is_digit, all_digits, digits_value, spare_zero, is_natural}
@@ -42,23 +44,15 @@ module _ (text : Text) (i to : ℕ) (before : i < to) (within : to ≤ length te
   pub digits-high : 57 < get_or text i 0 → all_digits (slice i to text) ≡ false
   digits-high h = digits-here ∙ ap (λ (d : Bool). d && all_digits (slice (i + 1) to text)) (digit-high _ h)
 
-  pub digits-first : all_digits (slice i to text) ≡ true → (48 ≤ get_or text i 0) × (get_or text i 0 ≤ 57)
-  digits-first e = digit-bounds (get_or text i 0) (and-true _ _ (sym digits-here ∙ e)).0
-
-  pub digits-rest : all_digits (slice i to text) ≡ true → all_digits (slice (i + 1) to text) ≡ true
-  digits-rest e = (and-true (is_digit (get_or text i 0)) _ (sym digits-here ∙ e)).1
-
-  pub value-next : (v : ℕ) → digits_value v (slice i to text) ≡ digits_value (v * 10 + (get_or text i 0 - 48)) (slice (i + 1) to text)
-  unfolding digits_value
-  value-next v = ap (digits_value v) (slice-step i to text 0 before within)
-
 pub digits_end : (text : Text) (to : ℕ) → all_digits (slice to to text) ≡ true
 unfolding all_digits
 digits_end text to = ap all_digits (slice_empty to text)
 
-pub value_end : (v : ℕ) (text : Text) (to : ℕ) → digits_value v (slice to to text) ≡ v
-unfolding digits_value
-value_end v text to = ap (digits_value v) (slice_empty to text)
+-- ---- all digits of a part, as a slice's iterator tests them
+pub all_is : (t : Text) → list_all is_digit t ≡ all_digits t
+unfolding all_digits
+all_is [] = refl
+all_is (c ∷ cs) = ap (λ (b : Bool). is_digit c && b) (all_is cs)
 
 -- ---- the size of the number
 pub value_grows : (v : ℕ) (t : Text) → v ≤ digits_value v t
@@ -89,6 +83,44 @@ pub natural_small : (t : Text) → is_natural t ≡ true → digits_value 0 t < 
 natural_small t e =
     let parts = natural_parts t e in
     omega (arith, value-below 0 t parts.2, pow-le-pow_right {n = 10} (omega arith) {i = length t} {j = 7} parts.1)
+
+-- ---- a number of at most seven digits read digit by digit: v from those before place i
+pub record Reading (xs : Text) (i v : ℕ) : Type 0 where
+  pub value-left : digits_value 0 xs ≡ digits_value v (drop i xs)
+  pub digits-left : all_digits (drop i xs) ≡ true
+  pub small : digits_value 0 xs < 10000000
+
+pub reading_none : (xs : Text) → is_natural xs ≡ true → Reading xs 0 0
+reading_none xs e = record { value-left = refl; digits-left = (natural_parts xs e).2; small = natural_small xs e }
+
+-- one digit more: it is one, the number with it is small, and the rest stays to read
+module _ {xs : Text} {i v : ℕ} (r : Reading xs i v) (more : i < length xs) where
+  abbrev next : ℕ
+  next = v * 10 + (get_or xs i 0 - 48)
+
+  rest-is : drop i xs ≡ get_or xs i 0 ∷ drop (i + 1) xs
+  rest-is = drop_more xs i 0 more
+
+  digits-are : (is_digit (get_or xs i 0) ≡ true) × (all_digits (drop (i + 1) xs) ≡ true)
+  unfolding all_digits
+  digits-are = and-true (is_digit (get_or xs i 0)) (all_digits (drop (i + 1) xs)) (sym (ap all_digits rest-is) ∙ r.digits-left)
+
+  pub reading_digit : (48 ≤ get_or xs i 0) × (get_or xs i 0 ≤ 57)
+  reading_digit = digit-bounds (get_or xs i 0) digits-are.0
+
+  value-is : digits_value 0 xs ≡ digits_value next (drop (i + 1) xs)
+  unfolding digits_value
+  value-is = r.value-left ∙ ap (digits_value v) rest-is
+
+  pub reading_small : next < 10000000
+  reading_small = omega (arith, value-is, value_grows next (drop (i + 1) xs), r.small)
+
+  pub reading_more : Reading xs (i + 1) next
+  reading_more = record { value-left = value-is; digits-left = digits-are.1; small = r.small }
+
+pub reading_all : {xs : Text} {i v : ℕ} → Reading xs i v → length xs ≤ i → digits_value 0 xs ≡ v
+unfolding digits_value
+reading_all {xs} {i} {v} r h = r.value-left ∙ ap (digits_value v) (drop_all i xs h)
 
 -- ---- the tests for a numeral without its minus, by its length and its first digit
 pub natural_short : (t : Text) → length t < 1 → is_natural t ≡ false

@@ -8,12 +8,12 @@ use borrow.Author.Tests.{eq-eqb, ne_eqb}
 use lib.IntN.{ℤ, pos, ◌-ℤ◌}
 use lib.ListN.{length, get_or}
 use lib.Seq.{slice, slice_empty}
+use Rattle.std.specs.Prelude.{Some, None}
 use Rattle.base_exact.proofs.Decide.{clash}
 use Rattle.base_exact.proofs.Word.{zero_sub}
 use Rattle.base_text.specs.Bytes.{Text, minus}
 use Rattle.base_text.specs.Numeral.{is_natural, digits_value, negated, numeral}
 use Rattle.base_text.specs.Machine.{field}
-use Rattle.base_text.specs.declared.numeral.Field.TheVariants.{Numeral, Bad}
 use Rattle.base_text.proofs.Slice.{slice-step}
 
 -- ---- of a text
@@ -63,12 +63,12 @@ module _ (text : Text) (from to : ℕ) (before : from < to) (within : to ≤ len
   plain-bad h d = plain_is h ∙ ap (λ (b : Bool). cond b (some (pos (digits_value 0 (slice from to text)))) none) d
 
 -- ---- what the answer for a field says of it
-pub field-none : (o : Option ℤ) → field o ≡ Bad → o ≡ none
+pub field-none : (o : Option ℤ) → field o ≡ None → o ≡ none
 unfolding field
 field-none none e = refl
 field-none (some z) e = clash cc
 
-pub field_some : (o : Option ℤ) (z : ℤ) → field o ≡ Numeral z → o ≡ some z
+pub field_some : (o : Option ℤ) (z : ℤ) → field o ≡ Some z → o ≡ some z
 unfolding field
 field_some none z e = clash cc
 field_some (some y) z e = cc

@@ -1,9 +1,10 @@
 -- Parts of a list: the first element of a part, and parts of parts. A loop that reads a text steps through it by these.
 use mathlib.Core.Path.{◌≡◌, sym, ◌∙◌, ap}
 use mathlib.Core.List.{List, [], ◌∷◌}
-use Prim.Native.Nat.{ℕ, zero, suc, ◌+◌, ◌<◌, ◌≤◌}
+use Prim.Native.Nat.{ℕ, zero, suc, ◌+◌, ◌-◌, ◌<◌, ◌≤◌}
 use native.Mathlib.Nat.{zero-add, suc-add}
 use native.Mathlib.Numerals.{add-one}
+use native.Mathlib.Omega.{arith}
 use lib.ListN.{length, get_or, take, drop}
 use lib.Seq.{slice, slice-cons, take-take, drop-drop, take-length}
 
@@ -30,3 +31,7 @@ module _ {A : Type 0} where
   -- the part up to the end
   pub slice_all : (f : ℕ) (l : List A) → slice f (length l) l ≡ drop f l
   slice_all f l = ap (drop f) (take-length l)
+
+  -- the part that `&l[f..t]` is
+  pub slice_range_is : (f t : ℕ) (l : List A) → f ≤ t → take (t - f) (drop f l) ≡ slice f t l
+  slice_range_is f t l h = let e : f + (t - f) ≡ t = omega arith in sym (slice_take f (t - f) l) ∙ ap (λ (n : ℕ). slice f n l) e

@@ -8,14 +8,10 @@ pub fn find(text: &[u8], from: usize, to: usize, byte: u8) -> usize
     requires { Range text.now from to }
     ensures { result ≡ from + index_of byte (slice from to text.now) }
 {
-    let mut i = from;
-    while i < to {
-        if text[i] == byte {
-            return i;
-        }
-        i += 1;
+    match text[from..to].iter().position(|c| *c == byte) {
+        Some(k) => from + k,
+        None => to,
     }
-    to
 }
 
 // Whether the part of the text begins with the key.
@@ -23,15 +19,5 @@ pub fn begins(text: &[u8], from: usize, to: usize, key: &[u8]) -> bool
     requires { Range text.now from to }
     ensures { result ≡ begins_with key.now (slice from to text.now) }
 {
-    let mut i = 0;
-    while i < key.len() {
-        if from + i == to {
-            return false;
-        }
-        if text[from + i] != key[i] {
-            return false;
-        }
-        i += 1;
-    }
-    true
+    text[from..to].starts_with(key)
 }

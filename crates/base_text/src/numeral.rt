@@ -6,13 +6,6 @@ ghost use Rattle.base_text.specs.Numeral.{all_digits, is_natural, digits_value, 
 ghost use Rattle.base_text.specs.Numeral;
 ghost use Rattle.base_text.specs.Machine.{field};
 
-// What stands between two commas: a whole number, or no numeral.
-#[derive(Clone, Copy)]
-pub enum Field {
-    Numeral(i32),
-    Bad,
-}
-
 const MOST_DIGITS: usize = 7;
 
 const BASE: u32 = 10;
@@ -22,17 +15,7 @@ fn all_digits(text: &[u8], from: usize, to: usize) -> bool
     requires { Range text.now from to }
     ensures { result ≡ all_digits (slice from to text.now) }
 {
-    let mut i = from;
-    while i < to {
-        if text[i] < b'0' {
-            return false;
-        }
-        if text[i] > b'9' {
-            return false;
-        }
-        i += 1;
-    }
-    true
+    text[from..to].iter().all(|c| c.is_ascii_digit())
 }
 
 // 1 to 7 digits without a spare zero.
@@ -61,34 +44,32 @@ fn digits_value(text: &[u8], from: usize, to: usize) -> u32
     ensures { result ≡ digits_value 0 (slice from to text.now) }
 {
     let mut v = 0;
-    let mut i = from;
-    while i < to {
-        v = v * BASE + (text[i] - b'0') as u32;
-        i += 1;
+    for c in &text[from..to] {
+        v = v * BASE + (*c - b'0') as u32;
     }
     v
 }
 
 // The number that the part stands for, if it is a numeral: a minus may stand before the digits, but not before 0.
-pub fn numeral(text: &[u8], from: usize, to: usize) -> Field
+pub fn numeral(text: &[u8], from: usize, to: usize) -> Option<i32>
     requires { Range text.now from to }
     ensures { result ≡ field (Numeral.numeral (slice from to text.now)) }
 {
     if from == to {
-        return Field::Bad;
+        return None;
     }
     if text[from] == b'-' {
         if is_natural(text, from + 1, to) {
             let v = digits_value(text, from + 1, to);
             if v == 0 {
-                return Field::Bad;
+                return None;
             }
-            return Field::Numeral(0 - v as i32);
+            return Some(0 - v as i32);
         }
-        return Field::Bad;
+        return None;
     }
     if is_natural(text, from, to) {
-        return Field::Numeral(digits_value(text, from, to) as i32);
+        return Some(digits_value(text, from, to) as i32);
     }
-    Field::Bad
+    None
 }

@@ -7,6 +7,8 @@ use Prim.Native.Nat.{ℕ, suc, ◌+◌, ◌-◌, ◌<◌, ◌≤◌}
 use native.Mathlib.Omega.{arith}
 use lib.IntN.{ℤ}
 use lib.ListN.{length, take, drop}
+use Rattle.std.specs.Prelude.{Err, Ok}
+use Rattle.base_outcome.specs.Machine.{refused}
 use Rattle.base_exact.proofs.Decide.{cond_true, cond_false}
 use Rattle.base_outcome.specs.Outcome.{Outcome, answer, refusal, capped}
 use Rattle.base_outcome.proofs.Outcome.{answer_unique}
@@ -26,7 +28,6 @@ use Rattle.build_space.specs.Machine.{space}
 use Rattle.build_space.specs.Legal.{ListsLegal, PartLegal}
 use Rattle.build_space.proofs.Legal.{checked_legal, legal_checked, legal_first-column-high}
 use Rattle.base_outcome.specs.Machine.{reply}
-use Rattle.base_outcome.specs.declared.Answer.TheVariants.{Count, Refused}
 use Rattle.build_joins.proofs.Ends.{weights_cleared}
 use Rattle.build.specs.Leaves.{BeamEnds}
 
@@ -34,10 +35,10 @@ use Rattle.build.specs.Leaves.{BeamEnds}
 
 -- a refusal that leaves the buffers
 pub beam_unchanged : (s : Space) (o : Outcome Table) (num den : List ℤ) {code place : ℕ} → o ≡ refusal code place → clears code ≡ false
-    → BeamEnds s o (Refused code place) num den num den
-unfolding reply numerators_after denominators_after
+    → BeamEnds s o (Err (refused code place)) num den num den
+unfolding numerators_after denominators_after
 beam_unchanged s o num den {code} {place} e kept =
-    subst (λ x. BeamEnds s x (Refused code place) num den num den) (sym e)
+    subst (λ x. BeamEnds s x (Err (refused code place)) num den num den) (sym e)
     (record { answers = refl; numerators_are = sym (cond_false _ _ kept); denominators_are = sym (cond_false _ _ kept) })
 
 -- ---- a buffer while the parts are built
@@ -186,11 +187,11 @@ module _ (b d o : List ℤ) (legal : ListsLegal b d o) where
 
       -- a part that is refused
       pub part_refused : {code place : ℕ} {num' den' : List ℤ} → weights part ≡ refusal code place → num' ≡ numerators_after (weights part) num
-          → den' ≡ denominators_after (weights part) den → BeamEnds s (weights s) (Refused code (capped (a + place))) num₀ den₀ num' den'
-      unfolding reply numerators_after denominators_after
+          → den' ≡ denominators_after (weights part) den → BeamEnds s (weights s) (Err (refused code (capped (a + place)))) num₀ den₀ num' den'
+      unfolding numerators_after denominators_after
       part_refused {code} {place} {num'} {den'} e p q =
           let told = weights_cleared part e in
-          subst (λ x. BeamEnds s x (Refused code (capped (a + place))) num₀ den₀ num' den')
+          subst (λ x. BeamEnds s x (Err (refused code (capped (a + place)))) num₀ den₀ num' den')
           (sym (refused_front s checks (part_end s a) (part-ends s a l).boundary (front-refuses s (orders_fit s checks) a starts st.answers e)))
           (record {
             answers = refl;
@@ -214,9 +215,9 @@ module _ (b d o : List ℤ) (legal : ListsLegal b d o) where
           some : 0 < a
           some = omega (arith, legal.some)
 
-      pub parts_done : BeamEnds s (weights s) (Count rows) num₀ den₀ num den
-      unfolding reply numerators_after denominators_after
+      pub parts_done : BeamEnds s (weights s) (Ok rows) num₀ den₀ num den
+      unfolding numerators_after denominators_after
       parts_done =
           let w = parts_whole in
-          subst (λ x. BeamEnds s x (Count rows) num₀ den₀ num den) (sym (ap weights (sym w.front) ∙ st.answers))
+          subst (λ x. BeamEnds s x (Ok rows) num₀ den₀ num den) (sym (ap weights (sym w.front) ∙ st.answers))
           (record { answers = ap answer w.rows_are; numerators_are = w.num_is; denominators_are = w.den_is })

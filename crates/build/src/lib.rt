@@ -6,7 +6,7 @@ ghost use Rattle.spec_spline.specs.Build.{build_end};
 ghost use Rattle.build_space.specs.Machine.{space};
 ghost use Rattle.base_outcome.specs.Machine.{reply};
 
-use base_outcome::{Answer, codes};
+use base_outcome::{Refusal, codes};
 
 pub mod parts;
 
@@ -18,20 +18,23 @@ pub fn build(
     orders: &[i32],
     num: &mut [i64],
     den: &mut [i64],
-) -> Answer
+) -> Result<usize, Refusal>
     ensures { let e = build_end (space breaks.now degrees.now orders.now) num.old
         den.old in
         (reply result ≡ e.answers) × ((num.new ≡ e.numerators) × (den.new ≡ e.denominators)) }
 {
     if num.len() < build_cells::TABLE_CELLS {
-        return Answer::Refused(codes::SHORT_BUFFER, 0);
+        return Err(Refusal {
+            code: codes::SHORT_BUFFER,
+            place: 0,
+        });
     }
     if den.len() < build_cells::TABLE_CELLS {
-        return Answer::Refused(codes::SHORT_BUFFER, 1);
+        return Err(Refusal {
+            code: codes::SHORT_BUFFER,
+            place: 1,
+        });
     }
-    let legality = build_limits::check(breaks, degrees, orders);
-    match legality {
-        base_outcome::Legality::Legal => parts::build_parts(breaks, degrees, orders, num, den),
-        base_outcome::Legality::Refused(code, place) => Answer::Refused(code, place),
-    }
+    build_limits::check(breaks, degrees, orders)?;
+    parts::build_parts(breaks, degrees, orders, num, den)
 }

@@ -8,7 +8,7 @@ ghost use Rattle.build_joins.specs.Leaves.{Ends};
 ghost use Rattle.build.specs.Asks.{PartAsks, PartsAsk};
 ghost use Rattle.build.specs.Leaves.{BeamEnds};
 
-use base_outcome::Answer;
+use base_outcome::Refusal;
 
 // The build of the part from segment a up to segment b, in buffers that are clear from row `used` on.
 pub fn build_part(
@@ -20,7 +20,7 @@ pub fn build_part(
     num: &mut [i64],
     den: &mut [i64],
     used: usize,
-) -> Answer
+) -> Result<usize, Refusal>
     requires { PartAsks breaks.now degrees.now orders.now a b num.old den.old used }
     ensures { let part = section (space breaks.now degrees.now orders.now) a (b - a) in
         Ends (Build.weights part) (row_count part) result num.old den.old num.new den.new }
@@ -43,7 +43,7 @@ pub fn build_parts(
     orders: &[i32],
     num: &mut [i64],
     den: &mut [i64],
-) -> Answer
+) -> Result<usize, Refusal>
     requires { PartsAsk breaks.now degrees.now orders.now num.old den.old }
     ensures { let s = space breaks.now degrees.now orders.now in
         BeamEnds s (Build.weights s) result num.old den.old num.new den.new }
@@ -51,19 +51,22 @@ pub fn build_parts(
     let mut rows = 0;
     let mut used = build_cells::ROW_CELLS;
     let mut a = 0;
+    // A `while`: the step is from part to part.
     while a < degrees.len() {
         let b = build_space::part_end(degrees, orders, a);
-        let built = build_part(breaks, degrees, orders, a, b, num, den, used);
-        match built {
-            Answer::Count(n) => {
+        match build_part(breaks, degrees, orders, a, b, num, den, used) {
+            Ok(n) => {
                 rows += n;
                 used = n;
             }
-            Answer::Refused(code, place) => {
-                return Answer::Refused(code, base_outcome::place(a + place as usize));
+            Err(refusal) => {
+                return Err(Refusal {
+                    code: refusal.code,
+                    place: base_outcome::place(a + refusal.place as usize),
+                });
             }
         }
         a = b;
     }
-    Answer::Count(rows)
+    Ok(rows)
 }

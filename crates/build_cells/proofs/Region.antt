@@ -1,17 +1,20 @@
--- Laws of a buffer that is written over in part: its length, its cells, and what one turn of a loop adds. They know
--- nothing of tables.
+-- Laws of a buffer that is written over in part: its length, its cells, and what the library's calls or one turn of a loop
+-- leave. They know nothing of tables.
 use mathlib.Core.Path.{◌≡◌, refl, sym, ◌∙◌, ap}
 use mathlib.Core.Bool.{Bool, true, false, cond, ◌&&◌}
 use mathlib.Core.Logic.{◌≢◌}
 use mathlib.Core.List.{List}
-use Prim.Native.Nat.{ℕ, ◌+◌, ◌*◌, ◌/◌, ◌%◌, ◌<◌, ◌≤◌}
+use Prim.Native.Nat.{ℕ, ◌+◌, ◌-◌, ◌*◌, ◌/◌, ◌%◌, ◌<◌, ◌≤◌}
 use native.Mathlib.Omega.{arith}
 use native.Mathlib.Decide.{dec_lt, ℕ_discrete}
 use borrow.Author.Tests.{lt-ltb, le-ltb, le-leb, lt-leb, eq-eqb, ne_eqb}
+use borrow.Rule.Slice.PartMut.{put_mid}
 use lib.Dec.{eqb, leb, ltb}
 use lib.IntN.{ℤ, pos}
-use lib.ListN.{length, get_or, set, length-set, get_or-eq_default}
-use lib.Seq.{get_or-set_other}
+use lib.ListN.{length, get_or, set, take, replicate, length-set, length-append, length-drop, get_or-eq_default}
+use lib.Seq.{get_or-set_other, ext_get_or, length-take-le}
+use Rattle.std.specs.List.{CopiedTo, SameBelow, SameFrom}
+use Rattle.std.proofs.lemmas.List.{length-replicate, places}
 use Rattle.base_exact.specs.Tabulate.{tab}
 use Rattle.base_exact.proofs.Tabulate.{tab_length, tab_get_d, tab_ext, tab_self, tab_store}
 use Rattle.spec_spline.specs.Table.{row_cells}
@@ -31,14 +34,6 @@ inside-after from to k h = go (leb from k)
     go : (b : Bool) → (b && ltb k to) ≡ false
     go true = le-ltb k to h
     go false = refl
-
--- one index more
-inside_more : (from to k : ℕ) → k ≢ to → inside from (to + 1) k ≡ inside from to k
-inside_more from to k h = ap (λ b. leb from k && b) (go (dec_lt k to))
-  where
-    go : Dec (k < to) → ltb k (to + 1) ≡ ltb k to
-    go (yes l) = lt-ltb k (to + 1) (omega arith) ∙ sym (lt-ltb k to l)
-    go (no l) = le-ltb k (to + 1) (omega arith) ∙ sym (le-ltb k to (omega arith))
 
 -- ---- a rule for all cells of a list
 
@@ -74,20 +69,26 @@ filled-before from to v xs k h = filled-outside from to v xs k (inside-before fr
 pub filled-after : (from to : ℕ) (v : ℤ) (xs : List ℤ) (k : ℕ) → to ≤ k → get_or (filled from to v xs) k (pos 0) ≡ get_or xs k (pos 0)
 filled-after from to v xs k h = filled-outside from to v xs k (inside-after from to k h)
 
--- a loop's stores
-pub filled_none : (from : ℕ) (v : ℤ) (xs : List ℤ) → xs ≡ filled from from v xs
-unfolding filled
-filled_none from v xs = sym (tab_self xs (pos 0)) ∙ tab_ext (length xs) (λ k h. at k (dec_lt k from))
+-- what a part written over with one number leaves of the whole
+pub filled_part : (from to n : ℕ) (v : ℤ) (xs ys : List ℤ) → from ≤ to → to ≤ length xs → n ≡ to - from → ys ≡ replicate n v
+    → put_mid from (to - from) xs ys ≡ filled from to v xs
+filled_part from to n v xs ys h l e y =
+    ext_get_or (pos 0) _ _ (whole ∙ sym (filled_length from to v xs)) (λ k m. at k (dec_lt k from) (dec_lt k to))
   where
-    at : (k : ℕ) → Dec (k < from) → get_or xs k (pos 0) ≡ cond (inside from from k) v (get_or xs k (pos 0))
-    at k (yes l) = ap (λ b. cond b v (get_or xs k (pos 0))) (sym (inside-before from from k l))
-    at k (no l) = ap (λ b. cond b v (get_or xs k (pos 0))) (sym (inside-after from from k (omega arith)))
+    front : length (take from xs) ≡ from
+    front = length-take-le from xs (omega arith)
 
-pub filled_more : (from k : ℕ) (v : ℤ) (xs : List ℤ) → from ≤ k → k < length xs → set (filled from k v xs) k v ≡ filled from (k + 1) v xs
-unfolding filled
-filled_more from k v xs h l = tab_store (length xs) k l
-    (ap (λ b. cond b v (get_or xs k (pos 0))) (inside_yes from (k + 1) k h (omega arith)))
-    (λ i m e. ap (λ b. cond b v (get_or xs i (pos 0))) (sym (inside_more from k i e)))
+    part : length ys ≡ to - from
+    part = ap length y ∙ length-replicate n v ∙ e
+
+    whole : length (put_mid from (to - from) xs ys) ≡ length xs
+    whole = omega (arith, length-append {A = ℤ}, length-drop {A = ℤ}, front, part)
+
+    at : (k : ℕ) → Dec (k < from) → Dec (k < to)
+        → get_or (put_mid from (to - from) xs ys) k (pos 0) ≡ get_or (filled from to v xs) k (pos 0)
+    at k (yes b) c = grind (arith, places, filled-before from to v xs k b)
+    at k (no b) (yes c) = grind (arith, places, filled-inside from to v xs k (omega arith) c l)
+    at k (no b) (no c) = grind (arith, places, filled-after from to v xs k (omega arith))
 
 -- ---- moved
 
@@ -109,19 +110,20 @@ moved_before from to xs k h = moved-outside from to xs k (inside-before from to 
 pub moved-after : (from to : ℕ) (xs : List ℤ) (k : ℕ) → to ≤ k → get_or (moved from to xs) k (pos 0) ≡ get_or xs k (pos 0)
 moved-after from to xs k h = moved-outside from to xs k (inside-after from to k h)
 
-pub moved_none : (from : ℕ) (xs : List ℤ) → xs ≡ moved from from xs
-unfolding moved
-moved_none from xs = sym (tab_self xs (pos 0)) ∙ tab_ext (length xs) (λ k h. at k (dec_lt k from))
+-- what `copy_within` leaves where the cells a row further on are copied
+pub moved_copied : (from to : ℕ) (xs ys : List ℤ) → to + row_cells ≤ length xs → length ys ≡ length xs
+    → CopiedTo xs ys (from + row_cells) from ((to + row_cells) - (from + row_cells))
+    × SameBelow xs ys from × SameFrom xs ys (from + ((to + row_cells) - (from + row_cells))) → ys ≡ moved from to xs
+moved_copied from to xs ys h e c =
+    ext_get_or (pos 0) ys (moved from to xs) (e ∙ sym (moved_length from to xs)) (λ k m. at k (dec_lt k from) (dec_lt k to))
   where
-    at : (k : ℕ) → Dec (k < from) → get_or xs k (pos 0) ≡ get_or xs (cond (inside from from k) (k + row_cells) k) (pos 0)
-    at k (yes l) = ap (λ b. get_or xs (cond b (k + row_cells) k) (pos 0)) (sym (inside-before from from k l))
-    at k (no l) = ap (λ b. get_or xs (cond b (k + row_cells) k) (pos 0)) (sym (inside-after from from k (omega arith)))
-
-pub moved_more : (from k : ℕ) (xs : List ℤ) → from ≤ k → k < length xs → set (moved from k xs) k (get_or xs (k + row_cells) (pos 0)) ≡ moved from (k + 1) xs
-unfolding moved
-moved_more from k xs h l = tab_store (length xs) k l
-    (ap (λ b. get_or xs (cond b (k + row_cells) k) (pos 0)) (inside_yes from (k + 1) k h (omega arith)))
-    (λ i m e. ap (λ b. get_or xs (cond b (i + row_cells) i) (pos 0)) (sym (inside_more from k i e)))
+    at : (k : ℕ) → Dec (k < from) → Dec (k < to) → get_or ys k (pos 0) ≡ get_or (moved from to xs) k (pos 0)
+    at k (yes b) d = c.1 k (pos 0) b ∙ sym (moved_before from to xs k b)
+    at k (no b) (yes d) =
+        c.0 k (pos 0) (omega arith) (omega arith)
+        ∙ ap (λ j. get_or xs j (pos 0)) (let next : from + row_cells + (k - from) ≡ k + row_cells = omega arith in next)
+        ∙ sym (moved_inside from to xs k (omega arith) d (omega arith))
+    at k (no b) (no d) = c.2 k (pos 0) (omega arith) ∙ sym (moved-after from to xs k (omega arith))
 
 -- ---- marked
 

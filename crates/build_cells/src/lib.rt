@@ -12,17 +12,13 @@ pub const ROW_CELLS: usize = base_fraction::arrays::ROW_CELLS;
 // Cells of a table.
 pub const TABLE_CELLS: usize = ROW_CELLS * ROW_CELLS;
 
-// One number in the cells of a buffer from the one index up to the other. A loop for each buffer: the compiler makes wide stores
+// One number in the cells of a buffer from the one index up to the other. A `fill` for each buffer: the compiler makes wide stores
 // of a loop that writes one number to one place after another, and of two such rows of places in one loop it makes slower ones.
 fn fill(cells: &mut [i64], value: i64, from: usize, to: usize)
     requires { (from ≤ to) × (to ≤ length cells.old) }
     ensures { cells.new ≡ filled from to value cells.old }
 {
-    let mut k = from;
-    while k < to {
-        cells[k] = value;
-        k += 1;
-    }
+    cells[from..to].fill(value);
 }
 
 // 0/1 in the cells from the one index up to the other.

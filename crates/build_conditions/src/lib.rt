@@ -64,12 +64,8 @@ pub fn entries(join: Join, k: usize) -> [i64; 6]
 {
     let s = scales(join, k);
     let mut values = [0; 6];
-    let count = 2 * k + 2;
-    let mut e = 0;
-    while e < count {
-        let x = entry(s, k, e);
-        values[e] = x;
-        e += 1;
+    for e in 0..2 * k + 2 {
+        values[e] = entry(s, k, e);
     }
     values
 }

@@ -12,7 +12,7 @@ use Rattle.base_fraction.specs.Size.{fits}
 use Rattle.base_fraction.specs.Machine as machine
 use Rattle.base_fraction.specs.Machine.{fraction, value, FractionFits}
 use Rattle.base_fraction.specs.declared.Fraction.{Fraction}
-use Rattle.base_fraction.specs.declared.Counted.TheVariants.{Fits, TooLarge}
+use Rattle.std.specs.Prelude.{Some, None}
 use Rattle.base_fraction.proofs.Value.{value-fraction}
 use Rattle.base_fraction.proofs.Size.{int-fits}
 use Rattle.base_fraction.proofs.Answer.{fits-sized, sized-fits, answer-fits, answer_large, kept}
@@ -36,7 +36,7 @@ pub record Answered (o : Outcome ℚ) (f : Fraction) : Type 0 where
   pub answers : o ≡ answer (value f)
   pub lowest : f ≡ fraction (value f)
 
-pub fits_answered : (o : Outcome ℚ) (f : Fraction) → counted o ≡ Fits f → Answered o f
+pub fits_answered : (o : Outcome ℚ) (f : Fraction) → counted o ≡ Some f → Answered o f
 unfolding counted
 fits_answered (answer q) f e =
     let w : fraction q ≡ f = cc in
@@ -50,20 +50,20 @@ pub record Refused {A : Type 0} (o : Outcome A) : Type 0 where
   pub place : ℕ
   pub refuses : o ≡ refusal code place
 
-pub large_refused : (o : Outcome ℚ) → counted o ≡ TooLarge → Refused o
+pub large_refused : (o : Outcome ℚ) → counted o ≡ None → Refused o
 unfolding counted
 large_refused (answer q) e = absurd (let z : ◌≡◌ {A = ℕ} 0 1 = cc in omega arith)
 large_refused (refusal code place) e = record { code = code; place = place; refuses = refl }
 
-pub refused_large : {o : Outcome ℚ} {code place : ℕ} → o ≡ refusal code place → counted o ≡ TooLarge
+pub refused_large : {o : Outcome ℚ} {code place : ℕ} → o ≡ refusal code place → counted o ≡ None
 unfolding counted
 refused_large e = ap counted e
 
 -- ---- chains
-pub fits_then : (o : Outcome ℚ) (f : ℚ → Outcome ℚ) (x : Fraction) → counted o ≡ Fits x → counted (o then f) ≡ counted (f (value x))
+pub fits_then : (o : Outcome ℚ) (f : ℚ → Outcome ℚ) (x : Fraction) → counted o ≡ Some x → counted (o then f) ≡ counted (f (value x))
 fits_then o f x e = ap counted (then_answers f (fits_answered o x e).answers)
 
-pub large_then : (o : Outcome ℚ) (f : ℚ → Outcome ℚ) → counted o ≡ TooLarge → counted (o then f) ≡ TooLarge
+pub large_then : (o : Outcome ℚ) (f : ℚ → Outcome ℚ) → counted o ≡ None → counted (o then f) ≡ None
 large_then o f e = refused_large (then_refuses f (large_refused o e).refuses)
 
 -- what was counted once and then again with zero added: the second count changes nothing
@@ -79,24 +79,24 @@ pub zero-before : (j : ℕ) (q s : ℚ) → s ≡ int (pos 0) → (count j q the
 zero-before j q s e = count-again j q (λ p. count j (s +ᵠ p)) (λ _. ap (λ z. count j (z +ᵠ q)) e ∙ ap (count j) (zero-add q))
 
 -- a product with zero, and the sum with it: neither can be too large, and the sum is what it was
-pub zero_then : (j : ℕ) (w : ℚ) (z : ℚ) (f : Fraction) → w ≡ int (pos 0) → FractionFits f → f ≡ fraction (value f) → counted (count j (w *ᵠ z) then λ p. count j (value f +ᵠ p)) ≡ Fits f
+pub zero_then : (j : ℕ) (w : ℚ) (z : ℚ) (f : Fraction) → w ≡ int (pos 0) → FractionFits f → f ≡ fraction (value f) → counted (count j (w *ᵠ z) then λ p. count j (value f +ᵠ p)) ≡ Some f
 unfolding counted
 zero_then j w z f e s lowest =
     ap counted (
     then_answers (λ p. count j (value f +ᵠ p)) (ap (λ q. count j (q *ᵠ z)) e ∙ ap (count j) (zero-mul z) ∙ count_fits j (int (pos 0)) (int-fits (pos 0) (omega arith)))
     ∙ ap (count j) (add-zero (value f))
     ∙ count_fits j (value f) (sized-fits s))
-    ∙ ap Fits (sym lowest)
+    ∙ ap Some (sym lowest)
 
 -- a fraction in lowest terms that fits has parts below the limit
 pub lowest_sized : {f : Fraction} → f ≡ fraction (value f) → fits (value f) ≡ true → FractionFits f
 lowest_sized {f} e h = rw e (fits-sized (value f) h)
 
 -- ---- what is counted last fits
-pub count-sized : (j : ℕ) (q : ℚ) (f : Fraction) → counted (count j q) ≡ Fits f → (value f ≡ q) × FractionFits f
+pub count-sized : (j : ℕ) (q : ℚ) (f : Fraction) → counted (count j q) ≡ Some f → (value f ≡ q) × FractionFits f
 count-sized j q f e = let k = kept q f (machine_counted j q ∙ e) in (k.value_is, k.fitted)
 
-pub then_count-sized : (j : ℕ) (o : Outcome ℚ) (g : ℚ → ℚ) (f : Fraction) → counted (o then λ p. count j (g p)) ≡ Fits f → FractionFits f
+pub then_count-sized : (j : ℕ) (o : Outcome ℚ) (g : ℚ → ℚ) (f : Fraction) → counted (o then λ p. count j (g p)) ≡ Some f → FractionFits f
 then_count-sized j o g f e =
     let a = fits_answered (o then λ p. count j (g p)) f e in
     let c = then_inverts o (λ p. count j (g p)) a.answers in

@@ -7,7 +7,7 @@ use lib.IntN.{pos}
 use Rattle.base_exact.specs.Rational.{ℚ, int, ◌+ᵠ◌, ◌-ᵠ◌, ◌*ᵠ◌}
 use Rattle.base_exact.proofs.Rational.{add-zero, mul-zero}
 use Rattle.base_fraction.specs.Size.{fits}
-use Rattle.base_fraction.specs.declared.Counted.TheVariants.{Fits}
+use Rattle.std.specs.Prelude.{Some}
 use Rattle.base_fraction.proofs.Value.{fraction-int}
 use Rattle.base_fraction.proofs.Size.{int-fits}
 use Rattle.base_outcome.specs.Outcome.{answer, ◌then◌}
@@ -32,7 +32,7 @@ zero-product : (j : ℕ) (u : ℚ) → count j (u *ᵠ int (pos 0)) ≡ answer (
 zero-product j u = ap (count j) (mul-zero u) ∙ count_fits j (int (pos 0)) (int-fits (pos 0) (omega arith))
 
 -- of two zeros
-pub zero-entry : (j : ℕ) (w v : ℚ) {x y : ℚ} → x ≡ int (pos 0) → y ≡ int (pos 0) → counted (new_entry j w v x y) ≡ Fits (record { num = pos 0; den = pos 1 })
+pub zero-entry : (j : ℕ) (w v : ℚ) {x y : ℚ} → x ≡ int (pos 0) → y ≡ int (pos 0) → counted (new_entry j w v x y) ≡ Some (record { num = pos 0; den = pos 1 })
 unfolding counted new_entry
 zero-entry j w v a b =
     ap₂ (λ x y. counted (new_entry j w v x y)) a b
@@ -41,7 +41,7 @@ zero-entry j w v a b =
     ∙ then_answers (λ q. count j (int (pos 0) +ᵠ q)) (zero-product j (int (pos 1) -ᵠ v))
     ∙ ap (count j) (add-zero (int (pos 0)))
     ∙ count_fits j (int (pos 0)) (int-fits (pos 0) (omega arith)))
-    ∙ ap Fits (fraction-int (pos 0))
+    ∙ ap Some (fraction-int (pos 0))
 
 -- of zero and an entry: the second product
 pub first-zero : (j : ℕ) (w v : ℚ) {x : ℚ} (y : ℚ) → x ≡ int (pos 0) → new_entry j w v x y ≡ count j ((int (pos 1) -ᵠ v) *ᵠ y)

@@ -8,34 +8,26 @@ ghost use Rattle.spec_spline.specs.Step;
 ghost use Rattle.build_counted.specs.Machine.{counted};
 ghost use Rattle.build_entry.specs.Factor.{UnitFactor, NewEntryAsks};
 
-use base_fraction::{Counted, Fraction};
+use base_fraction::Fraction;
 
 // w x + u y, with both products and the sum counted. A product with a zero is zero, and the sum with it is the other product, which
 // was counted before.
-pub fn new_entry(w: Fraction, u: Fraction, x: Fraction, y: Fraction) -> Counted
+pub fn new_entry(w: Fraction, u: Fraction, x: Fraction, y: Fraction) -> Option<Fraction>
     requires { NewEntryAsks w u x y }
     ensures { (j : ℕ) (v : ℚ) → value u ≡ int (pos 1) -ᵠ v → result ≡ counted (Step.new_entry j (value w) v (value x) (value y)) }
 {
     if x.num == 0 {
         if y.num == 0 {
-            return Counted::Fits(Fraction { num: 0, den: 1 });
+            return Some(Fraction { num: 0, den: 1 });
         }
         return base_arithmetic::product(u, y);
     }
     if y.num == 0 {
         return base_arithmetic::product(w, x);
     }
-    let first = base_arithmetic::product(w, x);
-    match first {
-        Counted::TooLarge => Counted::TooLarge,
-        Counted::Fits(p) => {
-            let second = base_arithmetic::product(u, y);
-            match second {
-                Counted::TooLarge => Counted::TooLarge,
-                Counted::Fits(q) => base_arithmetic::sum(p, q),
-            }
-        }
-    }
+    let first = base_arithmetic::product(w, x)?;
+    let second = base_arithmetic::product(u, y)?;
+    base_arithmetic::sum(first, second)
 }
 
 // The complement 1 - w of a factor from 0 to 1, which is never too large.

@@ -7,7 +7,6 @@ use lib.IntN.{ℤ}
 use lib.ListN.{length, drop, drop_of_length-le}
 use Rattle.spec_spline.specs.Space.{Space, segments, degree, first_column, column_count, condition_count, conditions_before}
 use Rattle.spec_spline.specs.Table.{Table, row_cells, identity}
-use Rattle.spec_spline.specs.Step.{step}
 use Rattle.spec_spline.specs.Build.{order_steps}
 use Rattle.spec_spline.proofs.Space.{first_column_mono}
 use Rattle.spec_spline.proofs.Table.{identity-rows}

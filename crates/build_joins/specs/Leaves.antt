@@ -1,9 +1,8 @@
 -- What the joins of a part start from, and what they and its build leave in the two lent buffers.
-use Rattle.std.specs.Prelude.{List, ◌++◌, ◌≡◌, ℕ, suc, ◌+◌, ◌≤◌, ℤ, take, drop}
+use Rattle.std.specs.Prelude.{Result, Ok, Err, List, ◌++◌, ◌≡◌, ℕ, suc, ◌+◌, ◌≤◌, ℤ, take, drop}
 use Rattle.base_outcome.specs.Outcome.{Outcome, answer, refusal, with_answer}
-use Rattle.base_outcome.specs.Machine.{reply}
-use Rattle.base_outcome.specs.declared.Answer.{Answer}
-use Rattle.base_outcome.specs.declared.Answer.TheVariants.{Count, Refused}
+use Rattle.base_outcome.specs.Machine.{reply, refused}
+use Rattle.base_outcome.specs.declared.Refusal.{Refusal}
 use Rattle.spec_spline.specs.Space.{Space, degree, first_column, column_count}
 use Rattle.spec_spline.specs.Table.{Table, row_cells, identity}
 use Rattle.spec_spline.specs.Build.{numerators_after, denominators_after}
@@ -21,16 +20,16 @@ pub record Start (s : Space) (num den : List ℤ) (columns : ℕ) : Type 0 where
   pub holds : Holds num den (take (first_column s 1) (identity columns))
 
 -- The number n of rows, or the refusal.
-abbrev pub told_joins : ℕ → Outcome Table → Answer
-told_joins n (answer t) = Count n
-told_joins n (refusal code place) = Refused code place
+abbrev pub told_joins : ℕ → Outcome Table → Result ℕ Refusal
+told_joins n (answer t) = Ok n
+told_joins n (refusal code place) = Err (refused code place)
 
 -- What the joins leave: the table with its n rows, or the refusal.
-abbrev pub JoinsLeave : Outcome Table → ℕ → Answer → List ℤ → List ℤ → List ℤ → List ℤ → Type 0
+abbrev pub JoinsLeave : Outcome Table → ℕ → Result ℕ Refusal → List ℤ → List ℤ → List ℤ → List ℤ → Type 0
 JoinsLeave o n r num den num' den' = Left (λ t. t) (told_joins n) o r num den num' den'
 
 -- What the build of a part answers and leaves, by the outcome o with n rows.
-pub record Ends (o : Outcome Table) (n : ℕ) (r : Answer) (num den num' den' : List ℤ) : Type 0 where
+pub record Ends (o : Outcome Table) (n : ℕ) (r : Result ℕ Refusal) (num den num' den' : List ℤ) : Type 0 where
   pub answers : reply r ≡ with_answer (λ _. n) o
   pub numerators_are : num' ≡ numerators_after o num
   pub denominators_are : den' ≡ denominators_after o den

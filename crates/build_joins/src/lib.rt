@@ -12,7 +12,7 @@ ghost use Rattle.build_step.specs.Leaves.{Leaves};
 ghost use Rattle.build_joins.specs.Leaves.{JoinsLeave, Ends, grown};
 ghost use Rattle.build_joins.specs.Asks.{JoinAsks, SideAsks, JoinsAsk, LegalAsks};
 
-use base_outcome::{Answer, codes};
+use base_outcome::Refusal;
 use build_conditions::{Join, Side};
 use build_factors::StepRefusal;
 
@@ -24,7 +24,7 @@ fn join_step(
     n: usize,
     rows: usize,
     columns: usize,
-) -> StepRefusal
+) -> Result<(), StepRefusal>
     requires { JoinAsks join n num.old den.old rows columns }
     ensures { (s : Space) (j : ℕ) (t : Table) → JoinIs join s j → Holds num.old den.old t
         → Shaped t rows columns
@@ -72,34 +72,27 @@ fn join_steps(
     num: &mut [i64],
     den: &mut [i64],
     columns: usize,
-) -> Answer
+) -> Result<usize, Refusal>
     requires { JoinsAsk breaks.now degrees.now orders.now num.old den.old columns }
     ensures { JoinsLeave (Build.weights (space breaks.now degrees.now orders.now))
         (row_count (space breaks.now degrees.now orders.now)) result num.old den.old
         num.new den.new }
 {
     let mut rows = build_space::degree_at(degrees, 0) + 1;
-    let mut j = 0;
-    while j < orders.len() {
+    for j in 0..orders.len() {
         let n = build_space::condition_count(orders, j);
         let more = build_space::degree_at(degrees, j + 1) + 1;
         let join = join_at(breaks, degrees, j);
-        let refusal = join_step(num, den, join, n, rows, columns);
-        let place = base_outcome::place(j);
-        match refusal {
-            StepRefusal::None => {
-                rows = rows + more - n;
-            }
-            StepRefusal::TooLarge => {
-                return Answer::Refused(codes::TOO_LARGE, place);
-            }
-            StepRefusal::Shape => {
-                return Answer::Refused(codes::JUMPS, place);
-            }
+        if let Err(refusal) = join_step(num, den, join, n, rows, columns) {
+            let place = base_outcome::place(j);
+            return Err(Refusal {
+                code: refusal.code(),
+                place,
+            });
         }
-        j += 1;
+        rows = rows + more - n;
     }
-    Answer::Count(rows)
+    Ok(rows)
 }
 
 // The build of one part whose lists are legal, in buffers that are long enough and clear from row `used` on.
@@ -110,7 +103,7 @@ pub fn build_legal(
     num: &mut [i64],
     den: &mut [i64],
     used: usize,
-) -> Answer
+) -> Result<usize, Refusal>
     requires { LegalAsks breaks.now degrees.now orders.now num.old den.old used }
     ensures { let s = space breaks.now degrees.now orders.now in
         Ends (Build.weights s) (row_count s) result num.old den.old num.new den.new }
@@ -118,11 +111,8 @@ pub fn build_legal(
     let columns = build_space::first_column(degrees, degrees.len());
     build_table::identity_over(num, den, build_space::degree_at(degrees, 0) + 1, used);
     let built = join_steps(breaks, degrees, orders, num, den, columns);
-    match built {
-        Answer::Count(n) => Answer::Count(n),
-        Answer::Refused(code, place) => {
-            build_cells::clear(num, den, 0, build_cells::TABLE_CELLS);
-            Answer::Refused(code, place)
-        }
+    if built.is_err() {
+        build_cells::clear(num, den, 0, build_cells::TABLE_CELLS);
     }
+    built
 }

@@ -1,2 +1,1 @@
--- The laws of the chain of refusals.
-pub mod Checks
+-- No law of its own.

@@ -1,2 +1,1 @@
--- What the contracts of build_limits cite beside the definitions of crate spec_spline.
-pub mod Checks
+-- No definition of its own: the contracts cite those of other crates.

@@ -1,13 +1,13 @@
 // The refusals 2 to 5 and 15 of the three lists, in their order.
 #![tactic(auto)]
 
-ghost use Rattle.std.specs.Prelude.{◌≡◌, ◌+◌, length};
-ghost use Rattle.base_outcome.specs.Machine.{legality};
-ghost use Rattle.spec_spline.specs.Space.{lengths_fit, checked};
+ghost use Rattle.std.specs.Prelude.{◌≡◌, ◌+◌, ◌<◌, ℕ, ℤ, List, length, IfSome};
+ghost use Rattle.std.proofs.Math.Option as math;
+ghost use Rattle.base_outcome.specs.Machine.{reply, passed, found};
+ghost use Rattle.spec_spline.specs.Space.{lengths_fit, checked_entries, checked, part_end_at};
 ghost use Rattle.build_space.specs.Machine.{space};
-ghost use Rattle.build_limits.specs.Checks.{breaks_checked, spans_checked, degrees_checked, orders_checked, parts_checked};
 
-use base_outcome::{Found, Legality, codes};
+use base_outcome::{Refusal, codes};
 use build_rules::Rule;
 
 pub fn lengths_fit(breaks: &[i32], degrees: &[i32], orders: &[i32]) -> bool
@@ -26,76 +26,43 @@ pub fn lengths_fit(breaks: &[i32], degrees: &[i32], orders: &[i32]) -> bool
     orders.len() == m - 1
 }
 
-// Code 15: the place is the first segment of the part.
-fn check_parts(breaks: &[i32], degrees: &[i32], orders: &[i32]) -> Legality
-    requires { (length degrees.now ≡ length orders.now + 1) × (length breaks.now ≡ length degrees.now + 1) }
-    ensures { result ≡ legality (parts_checked (space breaks.now degrees.now orders.now)) }
+// The last breakpoint of the part that segment i starts.
+fn end_of(degrees: &[i32], orders: &[i32], start: Option<usize>) -> Option<usize>
+    requires { (length degrees.now ≡ length orders.now + 1) × IfSome start (λ i. i < length degrees.now) }
+    ensures { (breaks : List ℤ) (o : math.Option ℕ) → start ≡ found o
+        → result ≡ found (part_end_at (space breaks degrees.now orders.now) o) }
 {
-    let bad = build_rules::first_bad(Rule::Segments, breaks, degrees, orders, degrees.len());
-    match bad {
-        Found::At(i) => Legality::Refused(codes::LONG_PART, base_outcome::place(i)),
-        Found::Nothing => Legality::Legal,
-    }
+    Some(build_space::part_end(degrees, orders, start?))
 }
 
-// Code 5, and what follows it.
-fn check_orders(breaks: &[i32], degrees: &[i32], orders: &[i32]) -> Legality
+// The first of the refusals 3 to 5 and 15, in this order, where the lengths fit. Of a part whose span is too long, code 3, the place is
+// the last breakpoint.
+fn check_entries(breaks: &[i32], degrees: &[i32], orders: &[i32]) -> Result<(), Refusal>
     requires { (length degrees.now ≡ length orders.now + 1) × (length breaks.now ≡ length degrees.now + 1) }
-    ensures { result ≡ legality (orders_checked (space breaks.now degrees.now orders.now)) }
+    ensures { reply result ≡ passed (checked_entries (space breaks.now degrees.now orders.now)) }
 {
-    let bad = build_rules::first_bad(Rule::Order, breaks, degrees, orders, orders.len());
-    match bad {
-        Found::At(i) => Legality::Refused(codes::ORDER, base_outcome::place(i)),
-        Found::Nothing => check_parts(breaks, degrees, orders),
-    }
-}
-
-// Code 4, and what follows it.
-fn check_degrees(breaks: &[i32], degrees: &[i32], orders: &[i32]) -> Legality
-    requires { (length degrees.now ≡ length orders.now + 1) × (length breaks.now ≡ length degrees.now + 1) }
-    ensures { result ≡ legality (degrees_checked (space breaks.now degrees.now orders.now)) }
-{
-    let bad = build_rules::first_bad(Rule::Degree, breaks, degrees, orders, degrees.len());
-    match bad {
-        Found::At(i) => Legality::Refused(codes::DEGREE, base_outcome::place(i)),
-        Found::Nothing => check_orders(breaks, degrees, orders),
-    }
-}
-
-// Code 3 of the parts, and what follows it: the place is the last breakpoint of the part.
-fn check_spans(breaks: &[i32], degrees: &[i32], orders: &[i32]) -> Legality
-    requires { (length degrees.now ≡ length orders.now + 1) × (length breaks.now ≡ length degrees.now + 1) }
-    ensures { result ≡ legality (spans_checked (space breaks.now degrees.now orders.now)) }
-{
-    let bad = build_rules::first_bad(Rule::Span, breaks, degrees, orders, degrees.len());
-    match bad {
-        Found::At(i) => {
-            let end = build_space::part_end(degrees, orders, i);
-            Legality::Refused(codes::BREAKPOINT, base_outcome::place(end))
-        }
-        Found::Nothing => check_degrees(breaks, degrees, orders),
-    }
-}
-
-// Code 3 of the breakpoints, and what follows it.
-fn check_breaks(breaks: &[i32], degrees: &[i32], orders: &[i32]) -> Legality
-    requires { (length degrees.now ≡ length orders.now + 1) × (length breaks.now ≡ length degrees.now + 1) }
-    ensures { result ≡ legality (breaks_checked (space breaks.now degrees.now orders.now)) }
-{
-    let bad = build_rules::first_bad(Rule::Breakpoint, breaks, degrees, orders, breaks.len());
-    match bad {
-        Found::At(i) => Legality::Refused(codes::BREAKPOINT, base_outcome::place(i)),
-        Found::Nothing => check_spans(breaks, degrees, orders),
-    }
+    let m = degrees.len();
+    let bad_break = build_rules::first_bad(Rule::Breakpoint, breaks, degrees, orders, breaks.len());
+    base_outcome::refuse_first(codes::BREAKPOINT, bad_break)?;
+    let long_span = build_rules::first_bad(Rule::Span, breaks, degrees, orders, m);
+    base_outcome::refuse_first(codes::BREAKPOINT, end_of(degrees, orders, long_span))?;
+    let bad_degree = build_rules::first_bad(Rule::Degree, breaks, degrees, orders, m);
+    base_outcome::refuse_first(codes::DEGREE, bad_degree)?;
+    let bad_order = build_rules::first_bad(Rule::Order, breaks, degrees, orders, orders.len());
+    base_outcome::refuse_first(codes::ORDER, bad_order)?;
+    let long_part = build_rules::first_bad(Rule::Segments, breaks, degrees, orders, m);
+    base_outcome::refuse_first(codes::LONG_PART, long_part)
 }
 
 // The first of the refusals 2 to 5 and 15, in this order.
-pub fn check(breaks: &[i32], degrees: &[i32], orders: &[i32]) -> Legality
-    ensures { result ≡ legality (checked (space breaks.now degrees.now orders.now)) }
+pub fn check(breaks: &[i32], degrees: &[i32], orders: &[i32]) -> Result<(), Refusal>
+    ensures { reply result ≡ passed (checked (space breaks.now degrees.now orders.now)) }
 {
-    if lengths_fit(breaks, degrees, orders) {
-        check_breaks(breaks, degrees, orders)
-    } else {
-        Legality::Refused(codes::LENGTHS, 0)
+    if !lengths_fit(breaks, degrees, orders) {
+        return Err(Refusal {
+            code: codes::LENGTHS,
+            place: 0,
+        });
     }
+    check_entries(breaks, degrees, orders)
 }

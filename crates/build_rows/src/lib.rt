@@ -13,9 +13,9 @@ ghost use Rattle.base_fraction.specs.Fractions.{fractions};
 ghost use Rattle.build_rows.specs.Rows.{UnitFactors};
 
 use base_fraction::arrays::Fractions;
-use base_fraction::{Counted, Fraction, arrays};
+use base_fraction::{Fraction, arrays};
 
-// Row i becomes w times itself plus u times the next row; false where a counted fraction is too large.
+// Row i becomes w times itself plus u times the next row; None where a counted fraction is too large.
 fn mix_row(
     num: &mut [i64],
     den: &mut [i64],
@@ -23,7 +23,7 @@ fn mix_row(
     w: Fraction,
     u: Fraction,
     columns: usize,
-) -> bool
+) -> Option<()>
     requires fraction_fits { FractionFits w × (FractionFits u × ((i + 1 < row_cells) × (columns ≤ row_cells))) }
     requires holds { (t : Table) × Holds num.old den.old t }
     ensures { (t : Table) (j : ℕ) (v : ℚ) → Holds num.old den.old t → value u ≡ int (pos 1) -ᵠ v
@@ -31,30 +31,19 @@ fn mix_row(
         → LeavesIf (with_answer (set t i) (Step.new_row j (value w) v (row t i) (row t (suc i)))) result num.old den.old
         num.new den.new }
 {
-    let mut c = 0;
-    while c < columns {
+    for c in 0..columns {
         let at = build_cells::ROW_CELLS * i + c;
         let below = at + build_cells::ROW_CELLS;
         let x = build_cells::read(num, den, at);
         let y = build_cells::read(num, den, below);
-        let made = build_entry::new_entry(w, u, x, y);
-        match made {
-            Counted::Fits(q) => {
-                let n = q.num;
-                let d = q.den;
-                num[at] = n;
-                den[at] = d;
-            }
-            Counted::TooLarge => {
-                return false;
-            }
-        }
-        c += 1;
+        let q = build_entry::new_entry(w, u, x, y)?;
+        num[at] = q.num;
+        den[at] = q.den;
     }
-    true
+    Some(())
 }
 
-// The rows f to l - 1 made new, rows rising; false where a counted fraction is too large.
+// The rows f to l - 1 made new, rows rising; None where a counted fraction is too large.
 pub fn mix_rows(
     num: &mut [i64],
     den: &mut [i64],
@@ -63,7 +52,7 @@ pub fn mix_rows(
     l: usize,
     rows: usize,
     columns: usize,
-) -> bool
+) -> Option<()>
     requires f_le_l { (f ≤ l) × ((l < rows) × Held num.old den.old rows columns) }
     requires unit_factors { UnitFactors ws }
     ensures { (t : Table) (j : ℕ) (qs : List ℚ) → Holds num.old den.old t → Shaped t rows columns
@@ -71,17 +60,12 @@ pub fn mix_rows(
         → LeavesIf (with_answer (λ rs. take f t ++ (rs ++ drop l t)) (Step.new_rows j (record { f = f; l = l }) qs t)) result num.old
         den.old num.new den.new }
 {
-    let mut i = f;
-    while i < l {
+    for i in f..l {
         let d = i - f;
         let w = arrays::fraction_at(&ws.num, &ws.den, d);
         let v = arrays::fraction_at(&ws.num, &ws.den, d + 1);
         let u = build_entry::complement(v);
-        let done = mix_row(num, den, i, w, u, columns);
-        if !done {
-            return false;
-        }
-        i += 1;
+        mix_row(num, den, i, w, u, columns)?;
     }
-    true
+    Some(())
 }

@@ -8,8 +8,6 @@ ghost use Rattle.spec_spline.specs.Space.{bad_break, bad_degree, bad_order, span
 ghost use Rattle.build_space.specs.Machine.{space};
 ghost use Rattle.build_rules.specs.Rules.{broken, entries};
 
-use base_outcome::Found;
-
 const PART_SEGMENT_LIMIT: usize = 12;
 
 const BREAK_LIMIT: i32 = 10000;
@@ -121,20 +119,16 @@ fn is_broken(rule: Rule, breaks: &[i32], degrees: &[i32], orders: &[i32], i: usi
 }
 
 // The first of the n entries that breaks the rule.
-pub fn first_bad(rule: Rule, breaks: &[i32], degrees: &[i32], orders: &[i32], n: usize) -> Found
+pub fn first_bad(
+    rule: Rule,
+    breaks: &[i32],
+    degrees: &[i32],
+    orders: &[i32],
+    n: usize,
+) -> Option<usize>
     requires degrees_len { (length degrees.now ≡ length orders.now + 1) × (length breaks.now ≡ length degrees.now + 1) }
     requires n_bound { n ≤ entries rule (space breaks.now degrees.now orders.now) }
     ensures { result ≡ found (first n (broken rule (space breaks.now degrees.now orders.now))) }
 {
-    let mut i = 0;
-    let found = loop {
-        if i == n {
-            break Found::Nothing;
-        }
-        if is_broken(rule, breaks, degrees, orders, i) {
-            break Found::At(i);
-        }
-        i += 1;
-    };
-    found
+    (0..n).find(|&i| is_broken(rule, breaks, degrees, orders, i))
 }

@@ -13,15 +13,14 @@ use Rattle.spec_spline.proofs.Space.{first_column_mono}
 use Rattle.spec_spline.proofs.Parts.{part-ends, segment_in_part}
 use Rattle.spec_spline.proofs.Legal.{Checked, checked_inverts, checked-passes, Lengths, lengths_fit_inverts, lengths-fit, good-break_rises}
 use Rattle.build_space.specs.Machine.{space}
-use Rattle.base_outcome.specs.Machine.{legality}
+use Rattle.base_outcome.specs.Machine.{passed}
 use Rattle.build_space.specs.Legal.{JoinsLegal, ListsLegal, PartLegal}
-use Rattle.base_outcome.specs.declared.Legality.TheVariants.{Legal}
 use Rattle.build_space.proofs.Entries.{good-break-size, break-good-first, break-good, good-degree_low, good-degree-high, degree-good}
 use Rattle.build_space.proofs.Entries.{GoodOrder, good-order, order-good, good-span, span-good, good-part, part-good}
 use Rattle.build_space.proofs.Bounds.{width_positive, width-within, degree-high, first-column-next, first-column-high}
 use Rattle.build_space.proofs.Bounds.{condition_count-high, condition_count-left, condition_count-right, conditions-before-columns}
 use Rattle.build_space.proofs.Bounds.{row-count-sum}
-use Rattle.base_outcome.proofs.Machine.{legal_answers}
+use Rattle.base_outcome.proofs.Machine.{passed_answers}
 
 -- ---- the check and its meaning
 
@@ -73,9 +72,9 @@ module _ (b d o : List ℤ) where
       good-break zero l = break-good-first (space b d o) (h.breaks_legal.size 0 (omega (arith, h.break-count)))
       good-break (suc i) l = break-good (space b d o) i (h.breaks_legal.size (suc i) (omega (arith, h.break-count))) (h.breaks_legal.rise i (omega (arith, h.break-count)))
 
-  -- the same of the machine's answer
-  pub legality_legal : legality (checked (space b d o)) ≡ Legal → ListsLegal b d o
-  legality_legal e = checked_legal (legal_answers _ e).is
+  -- the same of what the check tells
+  pub passed_legal : answer tt ≡ passed (checked (space b d o)) → ListsLegal b d o
+  passed_legal e = checked_legal (passed_answers _ e).is
 
 -- ---- what legal lists give
 

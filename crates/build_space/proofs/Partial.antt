@@ -1,18 +1,17 @@
 -- Every definition reads only the lists that it needs: on a space with the other lists left out it gives the same. The
 -- contracts of this crate name such partial spaces, the definitions of the build the whole one.
 use mathlib.Core.Path.{◌≡◌, refl, sym, ◌∙◌, ap, ap₂, fun_ext}
-use mathlib.Core.Bool.{cond, ◌&&◌}
+use mathlib.Core.Bool.{◌&&◌}
 use mathlib.Core.List.{List, []}
 use mathlib.Core.Option.{get_or}
 use Prim.Native.Nat.{ℕ, zero, suc, ◌+◌, ◌-◌}
 use lib.Dec.{ltb}
 use lib.IntN.{ℤ}
 use lib.ListN.{length}
-use lib.Signed.{lt_z, le_z}
-use Rattle.spec_spline.specs.Space.{break, starts_part, part_end, too_many_segments, part_segment_limit, bad_break, bad_degree, bad_order, degree}
+use Rattle.spec_spline.specs.Space.{starts_part, part_end, too_many_segments, part_segment_limit, bad_break, bad_degree, bad_order, degree}
 use Rattle.spec_spline.specs.Space.{condition_count, first_column, column_count, conditions_before, row_count}
 use Rattle.base_outcome.specs.Search.{first}
-use Rattle.spec_spline.specs.Reading.{fine, starts_at_discontinuity, starts_by}
+use Rattle.spec_spline.specs.Reading.{starts_at_discontinuity}
 use Rattle.build_space.specs.Machine.{space}
 
 module _ (b d o : List ℤ) where

@@ -36,18 +36,12 @@ pub fn part_end(degrees: &[i32], orders: &[i32], i: usize) -> usize
     requires { (i < length degrees.now) × (length degrees.now ≡ length orders.now + 1) }
     ensures { result ≡ part_end (space [] degrees.now orders.now) i }
 {
-    let m = degrees.len();
-    let mut k = i + 1;
-    let end = loop {
-        if k == m {
-            break m;
-        }
+    for k in i + 1..degrees.len() {
         if starts_part(orders, k) {
-            break k;
+            return k;
         }
-        k += 1;
-    };
-    end
+    }
+    degrees.len()
 }
 
 pub fn degree_at(degrees: &[i32], i: usize) -> usize
@@ -79,10 +73,8 @@ pub fn first_column(degrees: &[i32], i: usize) -> usize
     ensures { result ≡ first_column (space [] degrees.now []) i }
 {
     let mut column = 0;
-    let mut k = 0;
-    while k < i {
+    for k in 0..i {
         column += degree_at(degrees, k) + 1;
-        k += 1;
     }
     column
 }
@@ -93,10 +85,8 @@ fn conditions_before(orders: &[i32], i: usize) -> usize
     ensures { result ≡ conditions_before (space [] [] orders.now) i }
 {
     let mut count = 0;
-    let mut k = 0;
-    while k < i {
+    for k in 0..i {
         count += condition_count(orders, k);
-        k += 1;
     }
     count
 }

@@ -1,6 +1,5 @@
 -- The orders at a join, as turns: one row less at each, and which refusals they can give.
 use mathlib.Core.Path.{◌≡◌, refl, subst}
-use mathlib.Core.Logic.{◌⊎◌, inl, inr}
 use Prim.Native.Nat.{ℕ, suc, ◌-◌}
 use native.Mathlib.Omega.{arith}
 use Rattle.base_outcome.specs.Outcome.{Outcome, answer, refusal, with_answer}
@@ -11,9 +10,6 @@ use Rattle.spec_spline.specs.Table.{Table}
 use Rattle.spec_spline.specs.Step.{step}
 use Rattle.spec_spline.specs.Build.{order_steps}
 use Rattle.spec_spline.proofs.Refusals.{EightOrNine, step-refuses}
-use Rattle.build_factors.specs.Machine.{refusal_of}
-use Rattle.build_factors.specs.declared.StepRefusal.TheVariants as refusals
-use Rattle.build_factors.proofs.Answers.{eight_named, nine_named}
 use Rattle.build_step.proofs.Stepped.{Proper, step_one_less}
 use Rattle.build_step.proofs.Repeated.{Turns}
 
@@ -42,12 +38,3 @@ order-turns s j n rows columns t = record {
 pub orders_refuse : (s : Space) (j n : ℕ) (t : Table) → RefusedAs (EightOrNine j) (order_steps s j n t)
 unfolding order_steps
 orders_refuse s j n t = repeat_refused (EightOrNine j) n (λ k. step j (conditions s j k)) t (λ k u h e. step-refuses j (conditions s j k) u)
-
--- a number with one name is not the other
-pub named_eight : {code : ℕ} → (code ≡ 8) ⊎ (code ≡ 9) → refusal_of code ≡ refusals.TooLarge → code ≡ 8
-named_eight (inl e) h = e
-named_eight (inr e) h = absurd (let n = nine_named e in let z : ◌≡◌ {A = ℕ} 0 1 = cc in omega arith)
-
-pub named_nine : {code : ℕ} → (code ≡ 8) ⊎ (code ≡ 9) → refusal_of code ≡ refusals.Shape → code ≡ 9
-named_nine (inl e) h = absurd (let n = eight_named e in let z : ◌≡◌ {A = ℕ} 0 1 = cc in omega arith)
-named_nine (inr e) h = e

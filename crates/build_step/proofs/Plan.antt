@@ -1,9 +1,10 @@
 -- The two halves of a step: together they are the step, and what the first half tells of the jumps, their span and the factors.
-use mathlib.Core.Path.{◌≡◌, refl, sym, ◌∙◌, ap, subst}
-use mathlib.Core.Logic.{◌≢◌}
+use mathlib.Core.Path.{◌≡◌, refl, sym, ap, subst}
 use mathlib.Core.List.{List}
 use Prim.Native.Nat.{ℕ}
+use native.Mathlib.Omega.{arith}
 use lib.ListN.{length}
+use Rattle.std.specs.Prelude.{Result, Ok, Err}
 use Rattle.base_exact.specs.Rational.{ℚ}
 use Rattle.base_fraction.specs.Fractions.{fractions}
 use Rattle.base_outcome.specs.Outcome.{Outcome, answer, refusal, ◌then◌}
@@ -19,7 +20,7 @@ use Rattle.build_factors.specs.Machine.{Plans}
 use Rattle.build_factors.specs.declared.RowFactors.{RowFactors}
 use Rattle.build_factors.specs.declared.StepRefusal.{StepRefusal}
 use Rattle.build_factors.specs.declared.StepRefusal.TheVariants as refusals
-use Rattle.build_factors.proofs.Quotients.{refusal_some, Ended}
+use Rattle.build_factors.proofs.Quotients.{Ended}
 use Rattle.build_factors.proofs.Answers.{eight_named, nine_named}
 use Rattle.build_rows.specs.Rows.{UnitFactors}
 use Rattle.build_rows.proofs.Mixing.{unit_factors}
@@ -71,7 +72,7 @@ module _ (j : ℕ) (κ : List Entry) (t : Table) where
     named = eight_named (jumps-refuse_8 j κ t e.code e.place e.refuses).0;
   }
 
-  -- no refusal: the rows and factors
+  -- the rows and factors
   pub record Ready (r : RowFactors) : Type 0 where
     pub of : Planned
     pub answers : planned j κ t ≡ answer of
@@ -79,40 +80,43 @@ module _ (j : ℕ) (κ : List Entry) (t : Table) where
     pub factors_are : r.of ≡ fractions of.factors
     pub works : Works of
 
-  module _ {js : List ℚ} (has_jumps : jumps j κ t ≡ answer js) (r : RowFactors) (plans : Plans (plan_from j js) r) where
+  module _ {js : List ℚ} (has_jumps : jumps j κ t ≡ answer js) where
     from_jumps : planned j κ t ≡ plan_from j js
     unfolding planned
     from_jumps = then_answers (plan_from j) has_jumps
 
-    pub plan_ready : r.refusal ≡ refusals.None → Ready r
-    plan_ready h = go (plan_from j js) from_jumps plans
+    pub plan_ready : (r : RowFactors) → Plans (plan_from j js) (Ok r) → Ready r
+    plan_ready r plans = go (plan_from j js) from_jumps plans
       where
-        go : (o : Outcome Planned) → planned j κ t ≡ o → Plans o r → Ready r
-        go (answer p) e z = record {
-          of = p;
-          answers = e;
-          span_is = ap (λ (x : RowFactors). record { f = x.f; l = x.l }) z;
-          factors_are = ap (λ (x : RowFactors). x.of) z;
-          works = plan_works e;
-        }
-        go (refusal code place) e z = absurd (refusal_some code (sym z ∙ h))
+        go : (o : Outcome Planned) → planned j κ t ≡ o → Plans o (Ok r) → Ready r
+        go (answer p) e z =
+            let h : ◌≡◌ {A = RowFactors} r (record { f = p.span.f; l = p.span.l; of = fractions p.factors }) = cc in
+            record {
+              of = p;
+              answers = e;
+              span_is = ap (λ (x : RowFactors). record { f = x.f; l = x.l }) h;
+              factors_are = ap (λ (x : RowFactors). x.of) h;
+              works = plan_works e;
+            }
+        go (refusal code place) e z = absurd (let x : ◌≡◌ {A = ℕ} 0 1 = cc in omega arith)
 
     -- a refusal
-    pub plan_ended : (reason : StepRefusal) → r.refusal ≡ reason → reason ≢ refusals.None → Ended (planned j κ t) reason
-    plan_ended reason h n = go (plan_from j js) from_jumps plans
+    pub plan_ended : (reason : StepRefusal) → Plans (plan_from j js) (Err reason) → Ended (planned j κ t) reason
+    plan_ended reason plans = go (plan_from j js) from_jumps plans
       where
-        go : (o : Outcome Planned) → planned j κ t ≡ o → Plans o r → Ended (planned j κ t) reason
-        go (answer p) e z = absurd (n (sym h ∙ ap (λ (x : RowFactors). x.refusal) z))
-        go (refusal code place) e z = record { code = code; place = place; refuses = e; named = sym z ∙ h }
+        go : (o : Outcome Planned) → planned j κ t ≡ o → Plans o (Err reason) → Ended (planned j κ t) reason
+        go (answer p) e z = absurd (let x : ◌≡◌ {A = ℕ} 0 1 = cc in omega arith)
+        go (refusal code place) e z = record { code = code; place = place; refuses = e; named = cc }
 
 -- from the span of the jumps: none, or rows with their factors
-module _ (j : ℕ) (js : List ℚ) (r : RowFactors) where
-  pub plans_shapeless : Refused (span j js) → r.refusal ≡ refusals.Shape → Plans (plan_from j js) r
+module _ (j : ℕ) (js : List ℚ) where
+  pub plans_shapeless : Refused (span j js) → Plans (plan_from j js) (Err refusals.Shape)
   unfolding plan_from
-  plans_shapeless e h =
-      subst (λ (o : Outcome Planned). Plans o r) (sym (then_refuses (plan_over j js) e.refuses))
-      (h ∙ sym (nine_named (span-refuses_9 j js e.code e.place e.refuses).0))
+  plans_shapeless e =
+      subst (λ (o : Outcome Planned). Plans o (Err refusals.Shape)) (sym (then_refuses (plan_over j js) e.refuses))
+      (ap Err (sym (nine_named (span-refuses_9 j js e.code e.place e.refuses).0)))
 
-  pub plans_over : {g : Span} → span j js ≡ answer g → Plans (plan_over j js g) r → Plans (plan_from j js) r
+  pub plans_over : {g : Span} (r : Result RowFactors StepRefusal) → span j js ≡ answer g → Plans (plan_over j js g) r
+      → Plans (plan_from j js) r
   unfolding plan_from
-  plans_over e h = subst (λ (o : Outcome Planned). Plans o r) (sym (then_answers (plan_over j js) e)) h
+  plans_over r e h = subst (λ (o : Outcome Planned). Plans o r) (sym (then_answers (plan_over j js) e)) h

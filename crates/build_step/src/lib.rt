@@ -20,21 +20,17 @@ ghost use Rattle.build_step.specs.Leaves.{Leaves};
 use base_fraction::arrays::Fractions;
 use build_conditions::Join;
 use build_factors::{RowFactors, StepRefusal};
-use build_span::JumpSpan;
 
 // The first half of a step, from its jumps: the rows that they span and the factors of these rows.
-pub fn plan_step(js: Fractions, rows: usize) -> RowFactors
+pub fn plan_step(js: Fractions, rows: usize) -> Result<RowFactors, StepRefusal>
     requires { PlanAsks js rows }
     ensures { (qs : List ℚ) (j : ℕ) → js ≡ fractions qs → length qs ≡ rows → Plans (plan_from j qs) result }
 {
-    let span = build_span::span(js, rows);
-    match span {
-        JumpSpan::Nothing => build_factors::no_factors(StepRefusal::Shape),
-        JumpSpan::Rows(f, l) => build_factors::factors(js, f, l),
-    }
+    let span = build_span::span(js, rows).ok_or(StepRefusal::Shape)?;
+    build_factors::factors(js, span.f, span.l)
 }
 
-// The second half of a step with these factors of the rows f to l: the new rows and one row less; false where a counted fraction is
+// The second half of a step with these factors of the rows f to l: the new rows and one row less; None where a counted fraction is
 // too large.
 pub fn renew_rows(
     num: &mut [i64],
@@ -44,19 +40,16 @@ pub fn renew_rows(
     l: usize,
     rows: usize,
     columns: usize,
-) -> bool
+) -> Option<()>
     requires { RenewAsks num.old den.old factors f l rows columns }
     ensures { (t : Table) (j : ℕ) (ws : List ℚ) → Holds num.old den.old t → Shaped t rows columns
         → factors ≡ fractions ws
         → LeavesIf (rows_renewed j (record { f = f; l = l }) ws t) result num.old den.old num.new
         den.new }
 {
-    let done = build_rows::mix_rows(num, den, factors, f, l, rows, columns);
-    if !done {
-        return false;
-    }
+    build_rows::mix_rows(num, den, factors, f, l, rows, columns)?;
     build_table::drop_row(num, den, l, rows);
-    true
+    Some(())
 }
 
 // One step: the new rows and one row less, or why it is refused.
@@ -67,30 +60,16 @@ fn step(
     k: usize,
     rows: usize,
     columns: usize,
-) -> StepRefusal
+) -> Result<(), StepRefusal>
     requires { StepAsks join k num.old den.old rows columns }
     ensures { (s : Space) (j : ℕ) (t : Table) → JoinIs join s j → Holds num.old den.old t
         → Shaped t rows columns
         → Leaves (Step.step j (Conditions.conditions s j k) t) result num.old den.old num.new
         den.new }
 {
-    let js = build_jumps::jumps(num, den, rows, join, k);
-    if !js.fit {
-        return StepRefusal::TooLarge;
-    }
-    let plan = plan_step(js.of, rows);
-    let refusal = plan.refusal;
-    match refusal {
-        StepRefusal::TooLarge => StepRefusal::TooLarge,
-        StepRefusal::Shape => StepRefusal::Shape,
-        StepRefusal::None => {
-            let done = renew_rows(num, den, plan.of, plan.f, plan.l, rows, columns);
-            if !done {
-                return StepRefusal::TooLarge;
-            }
-            StepRefusal::None
-        }
-    }
+    let js = build_jumps::jumps(num, den, rows, join, k).ok_or(StepRefusal::TooLarge)?;
+    let plan = plan_step(js, rows)?;
+    renew_rows(num, den, plan.of, plan.f, plan.l, rows, columns).ok_or(StepRefusal::TooLarge)
 }
 
 // The orders 0 up to n - 1 at one join; `rows` is the number of rows before.
@@ -101,26 +80,14 @@ pub fn order_steps(
     n: usize,
     rows: usize,
     columns: usize,
-) -> StepRefusal
+) -> Result<(), StepRefusal>
     requires { StepsAsk join n num.old den.old rows columns }
     ensures { (s : Space) (j : ℕ) (t : Table) → JoinIs join s j → Holds num.old den.old t
         → Shaped t rows columns
         → Leaves (Build.order_steps s j n t) result num.old den.old num.new den.new }
 {
-    let mut k = 0;
-    while k < n {
-        let refusal = step(num, den, join, k, rows - k, columns);
-        match refusal {
-            StepRefusal::None => {
-                k += 1;
-            }
-            StepRefusal::TooLarge => {
-                return StepRefusal::TooLarge;
-            }
-            StepRefusal::Shape => {
-                return StepRefusal::Shape;
-            }
-        }
+    for k in 0..n {
+        step(num, den, join, k, rows - k, columns)?;
     }
-    StepRefusal::None
+    Ok(())
 }

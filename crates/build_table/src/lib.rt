@@ -27,11 +27,8 @@ fn mark_diagonal(num: &mut [i64], n: usize)
     requires { (n ≤ Table.row_cells) × (diagonal_step * n ≤ length num.old + Table.row_cells) }
     ensures { num.new ≡ marked n num.old }
 {
-    let mut i = 0;
-    while i < n {
-        let k = DIAGONAL_STEP * i;
-        num[k] = 1;
-        i += 1;
+    for i in 0..n {
+        num[DIAGONAL_STEP * i] = 1;
     }
 }
 
@@ -72,15 +69,10 @@ fn move_up(num: &mut [i64], den: &mut [i64], from: usize, to: usize)
     ensures num_after { num.new ≡ moved from to num.old }
     ensures den_after { den.new ≡ moved from to den.old }
 {
-    let mut k = from;
-    while k < to {
-        let next = k + build_cells::ROW_CELLS;
-        let n = num[next];
-        let d = den[next];
-        num[k] = n;
-        den[k] = d;
-        k += 1;
-    }
+    let start = from + build_cells::ROW_CELLS;
+    let end = to + build_cells::ROW_CELLS;
+    num.copy_within(start..end, from);
+    den.copy_within(start..end, from);
 }
 
 // Row l is left out: the rows after it move up, and the last row becomes 0/1.

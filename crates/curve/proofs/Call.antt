@@ -8,14 +8,11 @@ use Rattle.base_outcome.specs.Outcome.{Outcome, answer, refusal}
 use Rattle.spec_spline.specs.Table.{Table}
 use Rattle.spec_spline.specs.Reading.{Pair, side_by_side}
 use Rattle.spec_spline.specs.CurveCall.{CurveResult, returned, values_after}
-use Rattle.base_outcome.specs.Machine.{reply}
-use Rattle.base_outcome.specs.declared.Answer.TheVariants.{Count, Refused}
 
 module _ {o : Outcome CurveResult} where
   -- a refusal leaves the values as they were
   module _ {code place : ℕ} (e : o ≡ refusal code place) where
-    pub refused_answers : reply (Refused code place) ≡ returned o
-    unfolding reply
+    pub refused_answers : (refusal code place) ≡ returned o
     refused_answers = sym (ap returned e)
 
     pub refused_values : (vs : List ℤ) → vs ≡ values_after o vs
@@ -25,8 +22,7 @@ module _ {o : Outcome CurveResult} where
   -- the pairs of m positions
   module _ {t : Table} {written : List Pair} {m : ℕ} (e : o ≡ answer (record { table = t; values = written }))
       (l : length written ≡ m) where
-    pub written-answers : reply (Count m) ≡ returned o
-    unfolding reply
+    pub written-answers : (answer m) ≡ returned o
     written-answers = ap answer (sym l) ∙ sym (ap returned e)
 
     pub written-values : (vs : List ℤ) {vs' : List ℤ} → vs' ≡ side_by_side written ++ drop (2 * m) vs → vs' ≡ values_after o vs

@@ -9,7 +9,7 @@ ghost use Rattle.curve.specs.Pairs.{pairs_written, FewDegrees, ValuesAsk};
 ghost use Rattle.spec_spline.specs.CurveCall.{curve_end};
 ghost use Rattle.base_outcome.specs.Machine.{reply};
 
-use base_outcome::Answer;
+use base_outcome::Refusal;
 
 // The first columns of the segments.
 fn first_columns(degrees: &[i32]) -> [usize; build_space::SEGMENT_LIMIT]
@@ -18,11 +18,9 @@ fn first_columns(degrees: &[i32]) -> [usize; build_space::SEGMENT_LIMIT]
 {
     let mut columns = [0; build_space::SEGMENT_LIMIT];
     let mut column = 0;
-    let mut i = 0;
-    while i < degrees.len() {
+    for i in 0..degrees.len() {
         columns[i] = column;
         column += build_space::degree_at(degrees, i) + 1;
-        i += 1;
     }
     columns
 }
@@ -46,8 +44,7 @@ fn write_values(
     let wholes = curve_places::inverse_wholes(breaks, degrees);
     let tails = curve_places::inverse_tails(breaks, degrees);
     let mut at = 0;
-    let mut k = 0;
-    while k < positions.len() {
+    for k in 0..positions.len() {
         let x = positions[k];
         at = curve_segments::segment_near(&firsts, degrees.len(), x, at);
         let location = curve_places::location_at(breaks, degrees, &columns, at, x);
@@ -58,7 +55,6 @@ fn write_values(
         let late = pair.late;
         values[2 * k] = early;
         values[2 * k + 1] = late;
-        k += 1;
     }
 }
 
@@ -73,7 +69,7 @@ pub fn curve(
     num: &mut [i64],
     den: &mut [i64],
     values: &mut [i32],
-) -> Answer
+) -> Result<usize, Refusal>
     ensures { let e = curve_end (space breaks.now degrees.now orders.now) coefs.now
         positions.now num.old den.old values.old in
         (reply result ≡ e.answers) × ((num.new ≡ e.numerators)
@@ -81,7 +77,7 @@ pub fn curve(
 {
     let mut early = [0; curve_places::COLUMN_LIMIT];
     let mut late = [0; curve_places::COLUMN_LIMIT];
-    let built = curve_start::build_curves(
+    curve_start::build_curves(
         breaks,
         degrees,
         orders,
@@ -92,12 +88,7 @@ pub fn curve(
         den,
         &mut early,
         &mut late,
-    );
-    match built {
-        Answer::Refused(code, place) => Answer::Refused(code, place),
-        Answer::Count(_) => {
-            write_values(breaks, degrees, orders, &early, &late, positions, values);
-            Answer::Count(positions.len())
-        }
-    }
+    )?;
+    write_values(breaks, degrees, orders, &early, &late, positions, values);
+    Ok(positions.len())
 }

@@ -3,12 +3,12 @@
 
 ghost use Rattle.std.specs.Prelude.{◌≡◌};
 ghost use Rattle.build_space.specs.Machine.{space};
-ghost use Rattle.base_outcome.specs.Machine.{legality};
+ghost use Rattle.base_outcome.specs.Machine.{reply, passed};
 ghost use Rattle.build_space.specs.Legal.{ListsLegal};
 ghost use Rattle.base_outcome.specs.Outcome.{answer};
 ghost use Rattle.spec_spline.specs.CurveCall.{legal_entries, curve_checked};
 
-use base_outcome::{Legality, codes, limits};
+use base_outcome::{Refusal, codes, limits};
 
 // Codes 6 and 7 of a legal space.
 fn check_entries(
@@ -17,17 +17,14 @@ fn check_entries(
     orders: &[i32],
     coefs: &[i32],
     positions: &[i32],
-) -> Legality
+) -> Result<(), Refusal>
     requires { ListsLegal breaks.now degrees.now orders.now }
-    ensures { result ≡ legality (legal_entries (space breaks.now degrees.now orders.now)
+    ensures { reply result ≡ passed (legal_entries (space breaks.now degrees.now orders.now)
         coefs.now positions.now (answer (space breaks.now degrees.now
         orders.now))) }
 {
-    let c = curve_entries::check_coefficients(degrees, orders, coefs);
-    match c {
-        Legality::Refused(code, at) => Legality::Refused(code, at),
-        Legality::Legal => curve_entries::check_positions(breaks, degrees.len(), positions),
-    }
+    curve_entries::check_coefficients(degrees, orders, coefs)?;
+    curve_entries::check_positions(breaks, degrees.len(), positions)
 }
 
 // The first of the refusals 2 to 5, 15, 6 and 7.
@@ -37,19 +34,22 @@ pub fn check(
     orders: &[i32],
     coefs: &[i32],
     positions: &[i32],
-) -> Legality
-    ensures { result ≡ legality (curve_checked (space breaks.now degrees.now orders.now)
+) -> Result<(), Refusal>
+    ensures { reply result ≡ passed (curve_checked (space breaks.now degrees.now orders.now)
         coefs.now positions.now) }
 {
     if !build_limits::lengths_fit(breaks, degrees, orders) {
-        return Legality::Refused(codes::LENGTHS, 0);
+        return Err(Refusal {
+            code: codes::LENGTHS,
+            place: 0,
+        });
     }
     if positions.len() > limits::POSITION_LIMIT {
-        return Legality::Refused(codes::LENGTHS, 1);
+        return Err(Refusal {
+            code: codes::LENGTHS,
+            place: 1,
+        });
     }
-    let lists = build_limits::check(breaks, degrees, orders);
-    match lists {
-        Legality::Refused(code, at) => Legality::Refused(code, at),
-        Legality::Legal => check_entries(breaks, degrees, orders, coefs, positions),
-    }
+    build_limits::check(breaks, degrees, orders)?;
+    check_entries(breaks, degrees, orders, coefs, positions)
 }

@@ -119,8 +119,7 @@ fn column_terms(num: &[i64], den: &[i64], coefs: &[i32], index: usize, n: usize,
         least: 0,
         greatest: 0,
     };
-    let mut i = 0;
-    while i < n {
+    for i in 0..n {
         let at = build_cells::ROW_CELLS * i + c;
         let x = num[at];
         if x != 0 {
@@ -129,7 +128,6 @@ fn column_terms(num: &[i64], den: &[i64], coefs: &[i32], index: usize, n: usize,
             let d = den[at];
             all = with_term(all, a, x, d);
         }
-        i += 1;
     }
     all
 }
@@ -141,11 +139,8 @@ pub fn ordinates(num: &[i64], den: &[i64], coefs: &[i32], wood: Wood, n: usize, 
         → os.new ≡ tab (length os.old) (Reading.ordinate t (Reading.coefficient (wood_of wood) coefs.now)) }
 {
     let index = wood_index(wood);
-    let mut c = 0;
-    while c < os.len() {
+    for (c, o) in os.iter_mut().enumerate() {
         let all = column_terms(num, den, coefs, index, n, c);
-        let o = limited(all) as i32;
-        os[c] = o;
-        c += 1;
+        *o = limited(all) as i32;
     }
 }

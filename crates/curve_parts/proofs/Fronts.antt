@@ -7,6 +7,9 @@ use native.Mathlib.Omega.{arith}
 use lib.IntN.{ℤ}
 use lib.ListN.{length, take, drop, length-take, drop_of_length-le}
 use lib.Seq.{take_at, drop_at, drop-drop}
+use Rattle.std.specs.Prelude.{Err, Ok, Result}
+use Rattle.base_outcome.specs.declared.Refusal.{Refusal}
+use Rattle.base_outcome.specs.Machine.{refused}
 use Rattle.base_exact.specs.Tabulate.{tab}
 use Rattle.base_exact.proofs.Tabulate.{tab_length}
 use Rattle.base_outcome.specs.Outcome.{Outcome, answer, refusal, capped, with_answer}
@@ -26,8 +29,6 @@ use Rattle.theorems_beams.proofs.Reading.{front-ordinates}
 use Rattle.build_space.specs.Legal.{ListsLegal}
 use Rattle.build_space.proofs.Legal.{legal_checked}
 use Rattle.base_outcome.specs.Machine.{reply}
-use Rattle.base_outcome.specs.declared.Answer.{Answer}
-use Rattle.base_outcome.specs.declared.Answer.TheVariants.{Count, Refused}
 use Rattle.build.proofs.Beam.{Before, before-first, starts, both_is, part_more, part_refused, parts_done}
 use Rattle.base_outcome.proofs.Reply.{Counted, count_inverts, refused_inverts}
 use Rattle.curve_parts.specs.Parts.{Lent, lent, PartsLeave}
@@ -142,7 +143,7 @@ module _ (s : Space) (legal : ListsLegal s.breaks s.degrees s.orders) where
       one_part (refusal code place) = refl
 
       -- it is built in the columns up to `end`
-      module _ (end : ℕ) (end_is : end ≡ first_column s (part_end s a)) (r : Answer) {l' : Lent}
+      module _ (end : ℕ) (end_is : end ≡ first_column s (part_end s a)) (r : Result ℕ Refusal) {l' : Lent}
           (left : PartsLeave part own r (lent l.num l.den (cells_of column end l.early) (cells_of column end l.late)) l') where
         -- the lists with the part's ordinates put in
         abbrev pub after : Lent
@@ -155,7 +156,7 @@ module _ (s : Space) (legal : ListsLegal s.breaks s.degrees s.orders) where
         den_is = left.denominators_are ∙ ap (λ x. denominators_after x l.den) (one_part (weights part))
 
         -- with an answer
-        answered : {m : ℕ} → r ≡ Count m → Front s coefs l₀ (row + m) end (part_end s a) after
+        answered : {m : ℕ} → r ≡ Ok m → Front s coefs l₀ (row + m) end (part_end s a) after
         answered {m} e = record {
           state = state';
           columns = end_is;
@@ -188,18 +189,18 @@ module _ (s : Space) (legal : ListsLegal s.breaks s.degrees s.orders) where
                 ≡ ordinates (section s 0 (part_end s a)) state'.table (coefficient wood coefs) ++ drop end os₀
             moved wood os₀ = ap₂ (λ t k. ordinates (section s 0 (part_end s a)) t (coefficient wood coefs) ++ drop k os₀) same up_to_end
 
-        pub front_more : {m : ℕ} (next : ℕ) → next ≡ part_end s a → r ≡ Count m → Front s coefs l₀ (row + m) end next after
+        pub front_more : {m : ℕ} (next : ℕ) → next ≡ part_end s a → r ≡ Ok m → Front s coefs l₀ (row + m) end next after
         front_more {m} next z e = subst (λ k. Front s coefs l₀ (row + m) end k after) (sym z) (answered e)
 
         -- with a refusal
-        pub front_refused : {code place counted : ℕ} {early'' late'' : List ℤ} → r ≡ Refused code place → counted ≡ capped (a + place)
-            → PartsLeave s (λ wood. coefficient wood coefs) (Refused code counted) l₀ (lent l'.num l'.den early'' late'')
-        front_refused {code} {place} e p =
-            let stopped = refused_inverts (λ _. row_count part) (weights part) (ap reply (sym e) ∙ left.answers) in
+        pub front_refused : {e : Refusal} {counted : ℕ} {early'' late'' : List ℤ} → r ≡ Err e → counted ≡ capped (a + e.place)
+            → PartsLeave s (λ wood. coefficient wood coefs) (Err (refused e.code counted)) l₀ (lent l'.num l'.den early'' late'')
+        front_refused {e} h p =
+            let stopped = refused_inverts (λ _. row_count part) (weights part) (ap reply (sym h) ∙ left.answers) in
             let ends = part_refused _ _ _ legal f.state more stopped num_is den_is in
             let refused = refused_inverts (λ _. row_count s) (weights s) ends.answers in
             record {
-              answers = ap (λ (n : ℕ). reply (Refused code n)) p ∙ ends.answers;
+              answers = ap (λ (n : ℕ). (refusal e.code n)) p ∙ ends.answers;
               numerators_are = ends.numerators_are;
               denominators_are = ends.denominators_are;
               early_is = λ t z. absurd (answer_not_refusal z refused);
@@ -207,7 +208,7 @@ module _ (s : Space) (legal : ListsLegal s.breaks s.degrees s.orders) where
             }
 
     -- ---- all parts are built
-    pub front-whole : length s.degrees ≤ a → PartsLeave s (λ wood. coefficient wood coefs) (Count row) l₀ l
+    pub front-whole : length s.degrees ≤ a → PartsLeave s (λ wood. coefficient wood coefs) (Ok row) l₀ l
     front-whole none_left = let ends = parts_done _ _ _ legal f.state none_left in record {
       answers = ends.answers;
       numerators_are = ends.numerators_are;

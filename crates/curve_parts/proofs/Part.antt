@@ -8,6 +8,8 @@ use native.Mathlib.Omega.{arith}
 use lib.IntN.{ℤ, pos, nat_abs}
 use lib.ListN.{length, get_or, take, drop, length-drop, drop_of_length-le, get_or-eq_default}
 use lib.Seq.{length-take-le, get_or-take, get_or-drop}
+use Rattle.std.specs.Prelude.{Err, Ok, Result}
+use Rattle.base_outcome.specs.declared.Refusal.{Refusal}
 use Rattle.base_exact.specs.Tabulate.{tab}
 use Rattle.base_exact.proofs.Decide.{le_or_lt}
 use Rattle.base_exact.proofs.Tabulate.{tab_ext}
@@ -26,8 +28,6 @@ use Rattle.build_space.proofs.Legal.{legal_checked, legal_column-count-high, leg
 use Rattle.build_cells.specs.Held.{Holds}
 use Rattle.build_cells.proofs.Buffer.{holds-left}
 use Rattle.base_outcome.specs.Machine.{reply}
-use Rattle.base_outcome.specs.declared.Answer.{Answer}
-use Rattle.base_outcome.specs.declared.Answer.TheVariants.{Count, Refused}
 use Rattle.build.proofs.Building.{built-weights}
 use Rattle.build_step.proofs.Stepped.{Proper, weights_proper}
 use Rattle.base_outcome.proofs.Reply.{Counted, count_inverts, refused_inverts}
@@ -75,7 +75,7 @@ middle_ordinates s t wood coefs os row n rows columns =
 -- ---- the part from segment a up to segment e
 
 -- Building a space in two buffers ends with this answer and these contents.
-abbrev BuiltAs : Answer → List ℤ → List ℤ → List ℤ → List ℤ → Space → Type 0
+abbrev BuiltAs : Result ℕ Refusal → List ℤ → List ℤ → List ℤ → List ℤ → Space → Type 0
 BuiltAs r num den num' den' s = let e = build_end s num den in
     (reply r ≡ e.answers) × ((num' ≡ e.numerators) × (den' ≡ e.denominators))
 
@@ -100,7 +100,7 @@ module _ (s : Space) (a e : ℕ) (p : PartOf s a e) where
   pub part-columns_few : column_count part ≤ row_cells
   part-columns_few = part-column-count-high part.breaks part.degrees part.orders (part_legal _ _ _ p.legal a p.starts)
 
-  module _ (num den early late : List ℤ) (room : TableRoom (lent num den early late)) (r : Answer) {num' den' : List ℤ}
+  module _ (num den early late : List ℤ) (room : TableRoom (lent num den early late)) (r : Result ℕ Refusal) {num' den' : List ℤ}
       (ends : BuiltAs r num den num' den' own_lists) where
     -- what building the part leaves, in terms of its weights
     whole : BuiltAs r num den num' den' part
@@ -151,7 +151,7 @@ module _ (s : Space) (a e : ℕ) (p : PartOf s a e) where
       }
 
     -- it is built, with n rows
-    module _ {n : ℕ} (told : r ≡ Count n) where
+    module _ {n : ℕ} (told : r ≡ Ok n) where
       answered : Counted (λ _. row_count part) (weights part) n
       answered = count_inverts (λ _. row_count part) (weights part) (ap reply (sym told) ∙ part-answers)
 
@@ -169,7 +169,7 @@ module _ (s : Space) (a e : ℕ) (p : PartOf s a e) where
       pub leaves_rows : (coefs : List ℤ) (row : ℕ) {early' late' : List ℤ} → length early ≡ column_count part
           → length late ≡ column_count part
           → WorkedOut earlywood coefs row early early' → WorkedOut latewood coefs row late late'
-          → PartsLeave part (λ wood i. coefficient wood coefs (row + i)) (Count n) (lent num den early late) (lent num' den' early' late')
+          → PartsLeave part (λ wood i. coefficient wood coefs (row + i)) (Ok n) (lent num den early late) (lent num' den' early' late')
       leaves_rows coefs row l m worked worked' = record {
         answers = ap reply (sym told) ∙ part-answers;
         numerators_are = part-numerators;
@@ -182,9 +182,9 @@ module _ (s : Space) (a e : ℕ) (p : PartOf s a e) where
           size w = (proper w).shaped.row_count_lem ∙ sym answered.count
 
     -- it is refused
-    pub leaves_refused : {code place : ℕ} (coefs : Wood → ℕ → ℤ) {early' late' : List ℤ} → r ≡ Refused code place
-        → PartsLeave part coefs (Refused code place) (lent num den early late) (lent num' den' early' late')
-    leaves_refused {code} {place} coefs told = record {
+    pub leaves_refused : {e : Refusal} (coefs : Wood → ℕ → ℤ) {early' late' : List ℤ} → r ≡ Err e
+        → PartsLeave part coefs (Err e) (lent num den early late) (lent num' den' early' late')
+    leaves_refused {e} coefs told = record {
       answers = answers;
       numerators_are = part-numerators;
       denominators_are = part-denominators;
@@ -192,8 +192,8 @@ module _ (s : Space) (a e : ℕ) (p : PartOf s a e) where
       late_is = λ t x. absurd (answer_not_refusal x refused);
     }
       where
-        answers : reply (Refused code place) ≡ with_answer (λ _. row_count part) (weights part)
+        answers : refusal e.code e.place ≡ with_answer (λ _. row_count part) (weights part)
         answers = ap reply (sym told) ∙ part-answers
 
-        refused : weights part ≡ refusal code place
+        refused : weights part ≡ refusal e.code e.place
         refused = refused_inverts (λ _. row_count part) (weights part) answers

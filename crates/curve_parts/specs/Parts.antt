@@ -1,5 +1,5 @@
 -- What building the parts of a beam asks and leaves, for a beam and for one part of it by itself.
-use Rattle.std.specs.Prelude.{List, ◌++◌, ◌≡◌, ℕ, ◌+◌, ◌≤◌, ℤ, length, drop}
+use Rattle.std.specs.Prelude.{List, ◌++◌, ◌≡◌, ℕ, ◌+◌, ◌≤◌, ℤ, length, drop, Result}
 use Rattle.base_outcome.specs.Outcome.{answer, with_answer}
 use Rattle.spec_spline.specs.Space.{Space, part_end, column_count, row_count}
 use Rattle.spec_spline.specs.Table.{Table, table_cells}
@@ -9,7 +9,7 @@ use Rattle.theorems_beams.specs.Sections.{part_at}
 use Rattle.theorems_beams.specs.Parts.{Starts}
 use Rattle.build_space.specs.Legal.{ListsLegal}
 use Rattle.base_outcome.specs.Machine.{reply}
-use Rattle.base_outcome.specs.declared.Answer.{Answer}
+use Rattle.base_outcome.specs.declared.Refusal.{Refusal}
 use Rattle.curve_ordinates.specs.Ordinates.{Coefficients}
 
 -- ---- the lent lists
@@ -58,7 +58,7 @@ pub record PartsAsk (s : Space) (coefs : List ℤ) (l : Lent) : Type 0 where
 
 -- The row count or the refusal; the two buffers as after building; and after an answer the ordinates of all columns with these
 -- coefficients, for each wood part at the front of its list.
-pub record PartsLeave (s : Space) (coefs : Wood → ℕ → ℤ) (r : Answer) (before after : Lent) : Type 0 where
+pub record PartsLeave (s : Space) (coefs : Wood → ℕ → ℤ) (r : Result ℕ Refusal) (before after : Lent) : Type 0 where
   pub answers : reply r ≡ with_answer (λ _. row_count s) (weights s)
   pub numerators_are : after.num ≡ numerators_after (with_answer (last_part s) (weights s)) before.num
   pub denominators_are : after.den ≡ denominators_after (with_answer (last_part s) (weights s)) before.den

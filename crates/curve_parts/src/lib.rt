@@ -7,7 +7,7 @@ ghost use Rattle.theorems_beams.specs.Sections.{part_at};
 ghost use Rattle.build_space.specs.Machine.{space};
 ghost use Rattle.curve_parts.specs.Parts.{lent, PartAsks, PartsAsk, PartsLeave};
 
-use base_outcome::Answer;
+use base_outcome::Refusal;
 use curve_ordinates::Wood;
 
 // Builds the part from segment a up to segment b, and writes the ordinates of its columns for each wood part. Its coefficients
@@ -24,7 +24,7 @@ fn build_part(
     den: &mut [i64],
     early: &mut [i32],
     late: &mut [i32],
-) -> Answer
+) -> Result<usize, Refusal>
     requires { PartAsks (space breaks.now degrees.now orders.now) a b coefs.now row
         (lent num.old den.old early.old late.old) }
     ensures { PartsLeave (part_at (space breaks.now degrees.now orders.now) a)
@@ -32,22 +32,17 @@ fn build_part(
         (lent num.old den.old early.old late.old)
         (lent num.new den.new early.new late.new) }
 {
-    let built = build::build(
+    let n = build::build(
         &breaks[a..b + 1],
         &degrees[a..b],
         &orders[a..b - 1],
         num,
         den,
-    );
-    match built {
-        Answer::Refused(code, place) => Answer::Refused(code, place),
-        Answer::Count(n) => {
-            let own = &coefs[2 * row..2 * (row + n)];
-            curve_ordinates::ordinates(num, den, own, Wood::Earlywood, n, early);
-            curve_ordinates::ordinates(num, den, own, Wood::Latewood, n, late);
-            Answer::Count(n)
-        }
-    }
+    )?;
+    let own = &coefs[2 * row..2 * (row + n)];
+    curve_ordinates::ordinates(num, den, own, Wood::Earlywood, n, early);
+    curve_ordinates::ordinates(num, den, own, Wood::Latewood, n, late);
+    Ok(n)
 }
 
 // Builds the parts, and writes the ordinates of all columns for each wood part. A refusal's place is counted over the beam.
@@ -60,7 +55,7 @@ pub fn build_parts(
     den: &mut [i64],
     early: &mut [i32],
     late: &mut [i32],
-) -> Answer
+) -> Result<usize, Refusal>
     requires { PartsAsk (space breaks.now degrees.now orders.now) coefs.now
         (lent num.old den.old early.old late.old) }
     ensures { PartsLeave (space breaks.now degrees.now orders.now)
@@ -71,6 +66,7 @@ pub fn build_parts(
     let mut row = 0;
     let mut column = 0;
     let mut a = 0;
+    // A `while`: the step is from part to part.
     while a < degrees.len() {
         let b = build_space::part_end(degrees, orders, a);
         let end = build_space::first_column(degrees, b);
@@ -88,15 +84,18 @@ pub fn build_parts(
             &mut late[column..end],
         );
         match built {
-            Answer::Count(n) => {
+            Ok(n) => {
                 row += n;
             }
-            Answer::Refused(code, place) => {
-                return Answer::Refused(code, base_outcome::place(a + place as usize));
+            Err(refusal) => {
+                return Err(Refusal {
+                    code: refusal.code,
+                    place: base_outcome::place(a + refusal.place as usize),
+                });
             }
         }
         column = end;
         a = b;
     }
-    Answer::Count(row)
+    Ok(row)
 }

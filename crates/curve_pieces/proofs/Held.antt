@@ -8,6 +8,9 @@ use native.Mathlib.Omega.{arith}
 use borrow.Author.Tests.{lt-ltb, le-ltb, le-leb, lt-leb}
 use lib.IntN.{ℤ, pos}
 use lib.ListN.{get_or, get_or-append}
+use Rattle.std.specs.Prelude.{Result, Ok, Err}
+use Rattle.base_outcome.specs.declared.Refusal.{Refusal}
+use Rattle.base_outcome.specs.Machine as machine
 use Rattle.base_exact.proofs.Decide.{le_or_lt, cond_true, cond_false}
 use Rattle.base_exact.proofs.Tabulate.{tab_get_d, tab_ext}
 use Rattle.base_outcome.specs.Outcome.{answer, refusal, refuse, largest_place}
@@ -22,8 +25,6 @@ use Rattle.spec_calls.specs.CurveAlone.{curve_alone}
 use Rattle.spec_calls.specs.Pieces.{is_drawable, drawable_degree, piece_of, piece_outcome}
 use Rattle.curve_pieces.specs.Machine.{Shows, Replies, drawn, refused, piece_held, drawn_held}
 use Rattle.curve_pieces.specs.declared.Drawing.{Drawing}
-use Rattle.curve_pieces.specs.declared.PieceAnswer.{PieceAnswer}
-use Rattle.curve_pieces.specs.declared.PieceAnswer.TheVariants.{Drawn, Refused}
 
 -- ---- code 17
 
@@ -40,20 +41,20 @@ module _ (s : Space) (os : List ℤ) (k : ℕ) where
   unfolding is_drawable
   too_high h l = rw (lt-ltb k (segments s) h) (lt-leb (degree s k) drawable_degree l)
 
-  not-drawn : k ≤ largest_place → is_drawable s k ≡ false → Replies (Refused 17 k) (drawn_held s os k)
+  not-drawn : k ≤ largest_place → is_drawable s k ≡ false → Replies (Err (machine.refused 17 k)) (drawn_held s os k)
   not-drawn h e =
-      subst (Replies (Refused 17 k)) (ap (refusal 17) (sym (capped_small k h))
+      subst (Replies (Err (machine.refused 17 k))) (ap (refusal 17) (sym (capped_small k h))
       ∙ sym (cond_false (answer (piece_held s os k)) (refuse 17 k) e)) refused
 
-  pub missing_replies : k ≤ largest_place → segments s ≤ k → Replies (Refused 17 k) (drawn_held s os k)
+  pub missing_replies : k ≤ largest_place → segments s ≤ k → Replies (Err (machine.refused 17 k)) (drawn_held s os k)
   missing_replies h l = not-drawn h (missing l)
 
-  pub high-replies : k ≤ largest_place → k < segments s → drawable_degree < degree s k → Replies (Refused 17 k) (drawn_held s os k)
+  pub high-replies : k ≤ largest_place → k < segments s → drawable_degree < degree s k → Replies (Err (machine.refused 17 k)) (drawn_held s os k)
   high-replies h l m = not-drawn h (too_high l m)
 
   pub drawn_replies : {r : Drawing} → k < segments s → degree s k ≤ drawable_degree → Shows r (piece_held s os k)
-      → Replies (Drawn r) (drawn_held s os k)
-  drawn_replies {r} h l p = subst (Replies (Drawn r)) (sym (cond_true (answer (piece_held s os k)) (refuse 17 k) (drawable h l))) (drawn p)
+      → Replies (Ok r) (drawn_held s os k)
+  drawn_replies {r} h l p = subst (Replies (Ok r)) (sym (cond_true (answer (piece_held s os k)) (refuse 17 k) (drawable h l))) (drawn p)
 
 -- ---- the piece of the definition
 
@@ -87,13 +88,13 @@ module _ (s : Space) (t : Table) (wood : Wood) (coefs rest : List ℤ) (k : ℕ)
 
 module _ (s : Space) (wood : Wood) (coefs : List ℤ) (k num_length den_length : ℕ) where
   pub piece_refused : {code place : ℕ} → curve_alone s coefs num_length den_length ≡ refusal code place
-      → Replies (Refused code place) (piece_outcome s wood coefs k num_length den_length)
+      → Replies (Err (machine.refused code place)) (piece_outcome s wood coefs k num_length den_length)
   unfolding piece_outcome
   piece_refused {code} {place} e =
-      subst (Replies (Refused code place)) (sym
+      subst (Replies (Err (machine.refused code place))) (sym
       (then_refuses (λ r. cond (is_drawable s k) (answer (piece_of s r.table wood coefs k)) (refuse 17 k)) e)) refused
 
-  pub piece_drawn : {a : PieceAnswer} {os : List ℤ} (rest : List ℤ) (c : CurveResult) → curve_alone s coefs num_length den_length ≡ answer c
+  pub piece_drawn : {a : Result Drawing Refusal} {os : List ℤ} (rest : List ℤ) (c : CurveResult) → curve_alone s coefs num_length den_length ≡ answer c
       → os ≡ ordinates s c.table (coefficient wood coefs) ++ rest
       → Replies a (drawn_held s os k) → Replies a (piece_outcome s wood coefs k num_length den_length)
   unfolding piece_outcome

@@ -1,6 +1,6 @@
 -- The machine's form of a piece: its floats are the definition's numbers, and the answer's case is the outcome's; and a piece by the
 -- ordinates of all columns.
-use Rattle.std.specs.Prelude.{cond, List, ◌≡◌, ℕ, suc, ◌+◌, ◌<◌, ◌≤◌, ℤ, pos, length, get_or}
+use Rattle.std.specs.Prelude.{cond, List, ◌≡◌, ℕ, suc, ◌+◌, ◌<◌, ◌≤◌, ℤ, pos, length, get_or, Result, Ok, Err}
 use Rattle.base_exact.specs.Tabulate.{tab}
 use Rattle.base_outcome.specs.Codes as codes
 use Rattle.base_outcome.specs.Outcome.{Outcome, answer, refusal, refuse}
@@ -11,8 +11,7 @@ use Rattle.curve_places.specs.Offsets.{column_limit}
 use Rattle.curve_drawing.specs.Floats.{Is, Each, floats}
 use Rattle.spec_calls.specs.Pieces.{drawable_degree, Piece, is_drawable}
 use Rattle.curve_pieces.specs.declared.Drawing.{Drawing}
-use Rattle.curve_pieces.specs.declared.PieceAnswer.{PieceAnswer}
-use Rattle.curve_pieces.specs.declared.PieceAnswer.TheVariants.{Drawn, Refused}
+use Rattle.base_outcome.specs.declared.Refusal.{Refusal}
 
 -- The machine's piece is the definition's, "all as 64-bit floats, exactly" (§ 11): an end is the breakpoint itself, and an ordinate
 -- times 256 is the whole number from step 1 of § 6.
@@ -22,9 +21,9 @@ pub record Shows (r : Drawing) (p : Piece) : Type 0 where
   pub end : Is r.ends.end p.end 1
 
 -- The answer is the outcome: the piece, or the code and place of a refusal.
-pub data Replies : PieceAnswer → Outcome Piece → Type 0 where
-  drawn : {r : Drawing} {p : Piece} → Shows r p → Replies (Drawn r) (answer p)
-  refused : {code place : ℕ} → Replies (Refused code place) (refusal code place)
+pub data Replies : Result Drawing Refusal → Outcome Piece → Type 0 where
+  drawn : {r : Drawing} {p : Piece} → Shows r p → Replies (Ok r) (answer p)
+  refused : {r : Refusal} → Replies (Err r) (refusal r.code r.place)
 
 -- ---- a piece by the ordinates of all columns
 

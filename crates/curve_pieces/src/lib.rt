@@ -8,7 +8,7 @@ ghost use Rattle.curve_ordinates.specs.Wood.{wood_of};
 ghost use Rattle.spec_calls.specs.Pieces.{piece_end};
 ghost use Rattle.curve_pieces.specs.Machine.{Shows, piece_held, drawn_held, Replies, PieceAsks, DrawAsks};
 
-use base_outcome::codes;
+use base_outcome::{Refusal, codes};
 use curve_drawing::Curve;
 use curve_ordinates::Wood;
 
@@ -24,13 +24,6 @@ pub struct Ends {
 pub struct Drawing {
     pub curve: Curve,
     pub ends: Ends,
-}
-
-// What the call answers: the piece, or a refusal's code and place.
-#[derive(Clone, Copy)]
-pub enum PieceAnswer {
-    Drawn(Drawing),
-    Refused(u8, u32),
 }
 
 // The screen draws lines, quadratics and cubics.
@@ -58,20 +51,25 @@ fn draw(
     orders: &[i32],
     ordinates: &[i32],
     segment: u32,
-) -> PieceAnswer
+) -> Result<Drawing, Refusal>
     requires { DrawAsks (space breaks.now degrees.now orders.now) ordinates.now }
     ensures { Replies result (drawn_held (space breaks.now degrees.now orders.now)
         ordinates.now segment) }
 {
     let k = segment as usize;
     if k >= degrees.len() {
-        return PieceAnswer::Refused(codes::NOT_DRAWN, segment);
+        return Err(Refusal {
+            code: codes::NOT_DRAWN,
+            place: segment,
+        });
     }
     if build_space::degree_at(degrees, k) > DRAWABLE_DEGREE {
-        return PieceAnswer::Refused(codes::NOT_DRAWN, segment);
+        return Err(Refusal {
+            code: codes::NOT_DRAWN,
+            place: segment,
+        });
     }
-    let piece = piece_at(breaks, degrees, orders, ordinates, k);
-    PieceAnswer::Drawn(piece)
+    Ok(piece_at(breaks, degrees, orders, ordinates, k))
 }
 
 // Builds the weights, and answers the piece of the wood part's curve over the named segment. Lists and buffers may have any
@@ -85,14 +83,14 @@ pub fn piece(
     segment: u32,
     num: &mut [i64],
     den: &mut [i64],
-) -> PieceAnswer
+) -> Result<Drawing, Refusal>
     ensures { let e = piece_end (space breaks.now degrees.now orders.now) (wood_of wood)
         coefs.now segment num.old den.old in
         Replies result e.answers × ((num.new ≡ e.numerators) × (den.new ≡ e.denominators)) }
 {
     let mut early = [0; curve_places::COLUMN_LIMIT];
     let mut late = [0; curve_places::COLUMN_LIMIT];
-    let built = curve_start::build_curves(
+    curve_start::build_curves(
         breaks,
         degrees,
         orders,
@@ -103,12 +101,9 @@ pub fn piece(
         den,
         &mut early,
         &mut late,
-    );
-    match built {
-        base_outcome::Answer::Refused(code, place) => PieceAnswer::Refused(code, place),
-        base_outcome::Answer::Count(_) => match wood {
-            Wood::Earlywood => draw(breaks, degrees, orders, &early, segment),
-            Wood::Latewood => draw(breaks, degrees, orders, &late, segment),
-        },
+    )?;
+    match wood {
+        Wood::Earlywood => draw(breaks, degrees, orders, &early, segment),
+        Wood::Latewood => draw(breaks, degrees, orders, &late, segment),
     }
 }

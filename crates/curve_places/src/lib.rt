@@ -37,11 +37,8 @@ fn local_ordinates(ordinates: &[i32], c: usize, p: usize) -> [i64; 6]
     ensures { result ≡ local_of ordinates.now c p }
 {
     let mut o = [0; 6];
-    let mut k = 0;
-    while k <= p {
-        let x = ordinates[c + k] as i64;
-        o[k] = x;
-        k += 1;
+    for k in 0..p + 1 {
+        o[k] = ordinates[c + k] as i64;
     }
     o
 }
@@ -61,12 +58,8 @@ pub fn inverse_wholes(breaks: &[i32], degrees: &[i32]) -> [i64; build_space::SEG
     ensures { result ≡ wholes_of (space breaks.now degrees.now []) }
 {
     let mut wholes = [0; build_space::SEGMENT_LIMIT];
-    let mut k = 0;
-    while k < degrees.len() {
-        let d = fine_width(breaks, k);
-        let whole = curve_rate::whole_of(d);
-        wholes[k] = whole;
-        k += 1;
+    for k in 0..degrees.len() {
+        wholes[k] = curve_rate::whole_of(fine_width(breaks, k));
     }
     wholes
 }
@@ -77,12 +70,8 @@ pub fn inverse_tails(breaks: &[i32], degrees: &[i32]) -> [i64; build_space::SEGM
     ensures { result ≡ tails_of (space breaks.now degrees.now []) }
 {
     let mut tails = [0; build_space::SEGMENT_LIMIT];
-    let mut k = 0;
-    while k < degrees.len() {
-        let d = fine_width(breaks, k);
-        let tail = curve_rate::tail_of(d);
-        tails[k] = tail;
-        k += 1;
+    for k in 0..degrees.len() {
+        tails[k] = curve_rate::tail_of(fine_width(breaks, k));
     }
     tails
 }

@@ -1,5 +1,5 @@
 -- What the call ends with, case by case, by what is found with the ordinates of all columns.
-use mathlib.Core.Path.{◌≡◌, sym, ◌∙◌, ap}
+use mathlib.Core.Path.{◌≡◌, refl, sym, ◌∙◌, ap}
 use mathlib.Core.List.{List}
 use mathlib.Core.Option.{Option, some, none}
 use Prim.Native.Nat.{ℕ}
@@ -7,6 +7,8 @@ use native.Mathlib.Omega.{arith}
 use lib.IntN.{ℤ}
 use lib.Signed.{le_z}
 use Rattle.base_outcome.specs.Outcome.{Outcome, answer, refusal}
+use Rattle.std.specs.Option.{ok_or}
+use Rattle.base_outcome.specs.Machine.{reply, refused}
 use Rattle.base_outcome.specs.Search.{first}
 use Rattle.spec_spline.specs.Space.{Space}
 use Rattle.spec_spline.specs.Table.{Table}
@@ -18,22 +20,15 @@ use Rattle.spec_calls.specs.CurveAlone.{curve_alone}
 use Rattle.curve_start.proofs.Fronted.{fronted, blended_fronted}
 use Rattle.spec_calls.specs.Positions.{position_count, position}
 use Rattle.spec_calls.specs.Reach.{reaches, reached_at, reach_outcome}
-use Rattle.curve_reach.specs.Machine.{reply}
 use Rattle.curve_reach_search.specs.Machine.{held_value, reaches_held, found}
-use Rattle.curve_reach.specs.declared.ReachAnswer.TheVariants.{Refused}
-use Rattle.curve_reach_search.specs.declared.FirstPosition.TheVariants.{At, Nowhere}
 
 -- ---- what is found
 
-pub found-reached : (s : Space) (o : Option ℕ) (x : ℤ) → At x ≡ found s o → answer x ≡ reached_at s o
+-- the answer with a position, or the refusal 16 where there is none
+pub found-reached : (s : Space) (o : Option ℕ) → reply (ok_or (found s o) (refused 16 0)) ≡ reached_at s o
 unfolding found
-found-reached s none x e = absurd (let z : ◌≡◌ {A = ℕ} 0 1 = cc in omega arith)
-found-reached s (some i) x e = ap answer (let z : x ≡ position s i = cc in z)
-
-pub nowhere_reached : (s : Space) (o : Option ℕ) → Nowhere ≡ found s o → refusal 16 0 ≡ reached_at s o
-unfolding found
-nowhere_reached s none e = ap (refusal 16) (sym (capped_small 0 (omega arith)))
-nowhere_reached s (some i) e = absurd (let z : ◌≡◌ {A = ℕ} 0 1 = cc in omega arith)
+found-reached s none = ap (refusal 16) (sym (capped_small 0 (omega arith)))
+found-reached s (some i) = refl
 
 -- by the ordinates at the front of a list, as by the table
 reached_fronted : (s : Space) (t : Table) (n : ℕ) (wood : Wood) (coefs : List ℤ) (width : ℤ)
@@ -48,8 +43,8 @@ reached_fronted s t n wood coefs width =
 
 module _ (s : Space) (wood : Wood) (coefs : List ℤ) (width : ℤ) (num_length den_length : ℕ) where
   pub reach_refused : {code place : ℕ} → curve_alone s coefs num_length den_length ≡ refusal code place
-      → reply (Refused code place) ≡ reach_outcome s wood coefs width num_length den_length
-  unfolding reply reach_outcome
+      → refusal code place ≡ reach_outcome s wood coefs width num_length den_length
+  unfolding reach_outcome
   reach_refused e = sym (then_refuses (λ r. reached_at s (first (position_count s) (reaches s r.table wood coefs width))) e)
 
   -- the position, or 16

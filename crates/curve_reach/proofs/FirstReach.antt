@@ -10,7 +10,6 @@ use lib.IntN.{ℤ}
 use lib.ListN.{length}
 use lib.Signed.{◌<ℤ◌, ◌≤ℤ◌}
 use Rattle.base_exact.proofs.Decide.{true_not_false}
-use Rattle.base_exact.proofs.Integer as Z
 use Rattle.base_exact.proofs.Word.{le_z_true, le_z_false}
 use Rattle.base_outcome.specs.Outcome.{answer, refusal}
 use Rattle.base_outcome.specs.Search.{first}

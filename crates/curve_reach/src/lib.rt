@@ -11,19 +11,12 @@ ghost use Rattle.spec_calls.specs.Positions.{position_count};
 ghost use Rattle.curve_reach_search.specs.Machine.{reaches_held};
 ghost use Rattle.curve_reach_search.specs.Asks.{SearchAsks};
 ghost use Rattle.spec_calls.specs.Reach.{reached_at, reach_end};
-ghost use Rattle.curve_reach.specs.Machine.{reply, chosen};
+ghost use Rattle.curve_reach.specs.Machine.{chosen};
+ghost use Rattle.base_outcome.specs.Machine.{reply};
 ghost use Rattle.curve_reach.specs.Asks.{ReachAsks};
 
-use base_outcome::{codes, limits};
+use base_outcome::{Refusal, codes, limits};
 use curve_ordinates::Wood;
-use curve_reach_search::FirstPosition;
-
-// What the call answers: the position, or a refusal's code and place.
-#[derive(Clone, Copy)]
-pub enum ReachAnswer {
-    Reached(i32),
-    Refused(u8, u32),
-}
 
 // The first position at which the curve with these ordinates reaches the width, or code 16.
 fn first_reach(
@@ -32,17 +25,17 @@ fn first_reach(
     orders: &[i32],
     ordinates: &[i32],
     width: i32,
-) -> ReachAnswer
+) -> Result<i32, Refusal>
     requires { SearchAsks (space breaks.now degrees.now orders.now) ordinates.now }
     ensures { let s = space breaks.now degrees.now orders.now in
         reply result ≡ reached_at s (Search.first (position_count s) (reaches_held s ordinates.now (fine width))) }
 {
     let target = limits::WIDE_FINENESS * width as i64;
     let found = curve_reach_search::search(breaks, degrees, orders, ordinates, target);
-    match found {
-        FirstPosition::At(x) => ReachAnswer::Reached(x),
-        FirstPosition::Nowhere => ReachAnswer::Refused(codes::NEVER_REACHED, 0),
-    }
+    found.ok_or(Refusal {
+        code: codes::NEVER_REACHED,
+        place: 0,
+    })
 }
 
 // The same for the wood part, given the ordinates of both.
@@ -54,7 +47,7 @@ fn part_reach(
     early: &[i32],
     late: &[i32],
     width: i32,
-) -> ReachAnswer
+) -> Result<i32, Refusal>
     requires { ReachAsks (space breaks.now degrees.now orders.now) early.now late.now }
     ensures { let s = space breaks.now degrees.now orders.now in
         reply result ≡ reached_at s (Search.first (position_count s) (reaches_held s (chosen (wood_of wood) early.now late.now)
@@ -77,14 +70,14 @@ pub fn reach(
     width: i32,
     num: &mut [i64],
     den: &mut [i64],
-) -> ReachAnswer
+) -> Result<i32, Refusal>
     ensures { let e = reach_end (space breaks.now degrees.now orders.now) (wood_of wood)
         coefs.now width num.old den.old in
         (reply result ≡ e.answers) × ((num.new ≡ e.numerators) × (den.new ≡ e.denominators)) }
 {
     let mut early = [0; curve_places::COLUMN_LIMIT];
     let mut late = [0; curve_places::COLUMN_LIMIT];
-    let built = curve_start::build_curves(
+    curve_start::build_curves(
         breaks,
         degrees,
         orders,
@@ -95,11 +88,6 @@ pub fn reach(
         den,
         &mut early,
         &mut late,
-    );
-    match built {
-        base_outcome::Answer::Refused(code, place) => ReachAnswer::Refused(code, place),
-        base_outcome::Answer::Count(_) => part_reach(
-            wood, breaks, degrees, orders, &early, &late, width,
-        ),
-    }
+    )?;
+    part_reach(wood, breaks, degrees, orders, &early, &late, width)
 }

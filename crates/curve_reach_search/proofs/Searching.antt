@@ -24,7 +24,7 @@ use Rattle.build_space.proofs.Partial.{starts_at_discontinuity_partial}
 use Rattle.spec_calls.specs.Positions.{position_count, position}
 use Rattle.curve_reach_search.specs.Machine.{start_offset, end_offset, held_value, reaches_held, found}
 use Rattle.curve_reach_steps.specs.Machine.{value_on, LeastFrom}
-use Rattle.curve_reach_search.specs.declared.FirstPosition.TheVariants.{At, Nowhere}
+use Rattle.std.specs.Prelude.{Some, None}
 use Rattle.curve_reach_steps.proofs.Distances.{past}
 use Rattle.curve_reach_search.proofs.Positions.{position-before_end, index_of, position_of_index, index_in_span, position_rises}
 use Rattle.curve_reach_search.proofs.Offsets.{at, start_at_end, start_of_first, next_start, not_past, segment_of_offset, offset_is}
@@ -106,14 +106,14 @@ module _ (s : Space) (os : List ℤ) (target : ℤ) where
         pub none_at_next : end_offset s i ≤ r → NoneBefore (at s (suc i) (start_offset s (suc i)))
         none_at_next h = subst NoneBefore (next_start s c i below) (passed_over (end_offset s i) h (omega arith))
 
-        pub found_at : r < end_offset s i → found s (first (position_count s) (reaches_held s os target)) ≡ At (at s i r)
+        pub found_at : r < end_offset s i → found s (first (position_count s) (reaches_held s os target)) ≡ Some (at s i r)
         unfolding found
         found_at h =
             ap (found s) (first_at (reaches_held s os target) (position_count s) (index_of s (at s i r))
             (index_in_span s c (at s i r) low high) there
             (λ k l. not_le_test (passed_over r (omega arith) (omega arith) k
             (subst (λ x. position s k <ℤ x) same (position_rises s k _ l)))))
-            ∙ ap At same
+            ∙ ap Some same
           where
             low : fine (break s 0) ≤ℤ at s i r
             low =
@@ -132,7 +132,7 @@ module _ (s : Space) (os : List ℤ) (target : ℤ) where
                 ∙ le_test (subst (λ v. target ≤ℤ v) (sym (held_on r least.after h)) (least.there h))
 
     pub found_nowhere : (i : ℕ) → i ≡ segments s → NoneBefore (at s i (start_offset s i))
-        → found s (first (position_count s) (reaches_held s os target)) ≡ Nowhere
+        → found s (first (position_count s) (reaches_held s os target)) ≡ None
     unfolding found
     found_nowhere i e before =
         ap (found s) (first-none (reaches_held s os target) (position_count s)
@@ -178,11 +178,11 @@ module _ (s : Space) (os : List ℤ) (target : ℤ) (c : Checked s) where
       none_before = none_at_next s os target c i below B.none_before u least_of_segment (omega arith);
     })
 
-    pub found_in : u < d + next → At (at s i u) ≡ found s (first (position_count s) (reaches_held s os target))
+    pub found_in : u < d + next → Some (at s i u) ≡ found s (first (position_count s) (reaches_held s os target))
     found_in h = sym (found_at s os target c i below B.none_before u least_of_segment (omega arith))
 
   pub found-past : {column start i : ℕ} → Before s os target column start i → segments s ≤ i
-      → Nowhere ≡ found s (first (position_count s) (reaches_held s os target))
+      → None ≡ found s (first (position_count s) (reaches_held s os target))
   found-past {column} {start} {i} B h = sym (found_nowhere s os target c i (omega (arith, B.within)) B.none_before)
 
 -- the first offset reads no breakpoint

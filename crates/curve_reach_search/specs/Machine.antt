@@ -1,12 +1,10 @@
 -- The machine's form of the search: a segment's offsets, the value at a position by held ordinates, and what is found.
-use Rattle.std.specs.Prelude.{Bool, cond, ◌||◌, List, ℕ, suc, ◌+◌, eqb, ℤ}
-use Rattle.std.proofs.Math.Option.{Option, some, none}
+use Rattle.std.specs.Prelude.{Bool, cond, ◌||◌, List, ℕ, suc, ◌+◌, eqb, ℤ, Option, Some, None}
+use Rattle.std.proofs.Math.Option as math
 use Rattle.std.specs.Int.Signed.{le_z}
 use Rattle.spec_spline.specs.Space.{Space, segments}
 use Rattle.spec_spline.specs.Reading.{starts_at_discontinuity, segment_at, fine_width, blended}
 use Rattle.spec_calls.specs.Positions.{position}
-use Rattle.curve_reach_search.specs.declared.FirstPosition.{FirstPosition}
-use Rattle.curve_reach_search.specs.declared.FirstPosition.TheVariants.{At, Nowhere}
 
 -- ---- the offsets of a segment
 
@@ -30,6 +28,6 @@ abbrev pub reaches_held : Space → List ℤ → ℤ → ℕ → Bool
 reaches_held s os target i = le_z target (held_value s os (position s i))
 
 -- What is found, as a position.
-unfoldable pub found : Space → Option ℕ → FirstPosition
-found s none = Nowhere
-found s (some i) = At (position s i)
+unfoldable pub found : Space → math.Option ℕ → Option ℤ
+found s math.none = None
+found s (math.some i) = Some (position s i)

@@ -18,13 +18,6 @@ const PAST_THE_END: usize = 1;
 // A discontinuity is the segment's before it: the first offset of the one after it.
 const PAST_A_DISCONTINUITY: usize = 1;
 
-// The first position that reaches the target, if any does.
-#[derive(Clone, Copy)]
-pub enum FirstPosition {
-    At(i32),
-    Nowhere,
-}
-
 // The first offset that belongs to segment i, or to the end of the last one.
 fn start_offset(degrees: &[i32], orders: &[i32], i: usize) -> usize
     requires { BoundaryAsks degrees.now orders.now i }
@@ -51,32 +44,30 @@ fn position_at(breaks: &[i32], i: usize, u: usize) -> i32
     limits::FINENESS * start + u as i32
 }
 
-// The first position of the span that reaches the target.
+// The first position of the span that reaches the target, if any does.
 pub fn search(
     breaks: &[i32],
     degrees: &[i32],
     orders: &[i32],
     ordinates: &[i32],
     target: i64,
-) -> FirstPosition
+) -> Option<i32>
     requires { SearchAsks (space breaks.now degrees.now orders.now) ordinates.now }
     ensures { let s = space breaks.now degrees.now orders.now in
         result ≡ Machine.found s (first (position_count s) (Machine.reaches_held s ordinates.now target)) }
 {
     let mut column = 0;
     let mut start = 0;
-    let mut i = 0;
-    while i < degrees.len() {
+    for i in 0..degrees.len() {
         let p = build_space::degree_at(degrees, i);
         let d = curve_places::fine_width(breaks, i) as usize;
         let next = start_offset(degrees, orders, i + 1);
         let u = curve_reach_steps::first_offset(ordinates, column, p, d, start, d + next, target);
         if u < d + next {
-            return FirstPosition::At(position_at(breaks, i, u));
+            return Some(position_at(breaks, i, u));
         }
         column += p + 1;
         start = next;
-        i += 1;
     }
-    FirstPosition::Nowhere
+    None
 }

@@ -27,12 +27,10 @@ fn steepest(ordinates: &[i32], c: usize, p: usize) -> usize
     ensures { Machine.Steepest ordinates.now c p result }
 {
     let mut rise = 1;
-    let mut k = 0;
-    while k < p {
+    for k in 0..p {
         let low = ordinates[c + k];
         let high = ordinates[c + k + 1];
         rise = steeper(rise, low as i64, high as i64);
-        k += 1;
     }
     rise
 }
@@ -42,18 +40,13 @@ fn one_reaches(ordinates: &[i32], c: usize, p: usize, target: i64) -> bool
     requires { ColumnsAsk ordinates.now c p }
     ensures { result ≡ Search.found (first (suc p) (λ k. le_z target (get_or ordinates.now (c + k) (pos 0)))) }
 {
-    let mut k = 0;
-    let reaches = loop {
-        if k > p {
-            break false;
-        }
+    for k in 0..p + 1 {
         let o = ordinates[c + k] as i64;
         if o >= target {
-            break true;
+            return true;
         }
-        k += 1;
-    };
-    reaches
+    }
+    false
 }
 
 // How many positions after one that lies below the target by `gap` are sure to lie below it too: in a segment of degree p and
@@ -102,6 +95,7 @@ fn step_through(
 {
     let cost = p * steepest(ordinates, c, p);
     let mut u = start;
+    // A `loop`: the step is how many positions the value lets pass over.
     let at = loop {
         if u >= end {
             break u;

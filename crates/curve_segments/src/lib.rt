@@ -45,11 +45,8 @@ pub fn first_positions(
     ensures { result ≡ first_positions_of (space breaks.now degrees.now orders.now) }
 {
     let mut firsts = [0; build_space::SEGMENT_LIMIT];
-    let mut i = 0;
-    while i < degrees.len() {
-        let first = first_position(breaks, orders, i);
-        firsts[i] = first;
-        i += 1;
+    for i in 0..degrees.len() {
+        firsts[i] = first_position(breaks, orders, i);
     }
     firsts
 }
@@ -61,13 +58,10 @@ fn segment_at(firsts: &[i32], m: usize, x: i32) -> usize
     ensures { result ≡ Option.get_or (Search.last m (λ k. le_z (get_or firsts.now k (pos 0)) x)) 0 }
 {
     let mut at = 0;
-    let mut i = 0;
-    while i < m {
-        let first = firsts[i];
-        if first <= x {
+    for (i, first) in firsts[..m].iter().enumerate() {
+        if *first <= x {
             at = i;
         }
-        i += 1;
     }
     at
 }

@@ -8,9 +8,8 @@ use lib.IntN.{pos, nat_abs}
 use lib.ListN.{length, get_or, get_or-eq_default}
 use Rattle.base_exact.proofs.Decide.{le_or_lt, cond_true, cond_false}
 use Rattle.base_outcome.specs.Outcome.{Outcome, answer, refusal, capped, with_answer, ◌then◌}
-use Rattle.base_outcome.specs.Machine.{legality}
-use Rattle.base_outcome.specs.declared.Legality.TheVariants.{Legal}
-use Rattle.base_outcome.proofs.Machine.{legal_answers}
+use Rattle.base_outcome.specs.Machine.{passed}
+use Rattle.base_outcome.proofs.Machine.{passed_answers}
 use Rattle.base_outcome.proofs.Outcome.{then_answers, then_refuses}
 use Rattle.base_outcome.proofs.Search.{first-none_inverts}
 use Rattle.spec_spline.specs.Space.{Space, row_count}
@@ -38,27 +37,27 @@ result_of c t = record { table = t; values = values c.lists t c.coefs c.position
 
 -- ---- lists and entries that pass
 
-module _ (c : Call) (e : legality (checked_of c) ≡ Legal) where
+module _ (c : Call) (e : answer (tt {0}) ≡ passed (checked_of c)) where
   reached : Space
-  reached = (legal_answers (checked_of c) e).given
+  reached = (passed_answers (checked_of c) e).given
 
-  passed : ChecksPassed c.lists c.coefs c.positions × (c.lists ≡ reached)
+  passing : ChecksPassed c.lists c.coefs c.positions × (c.lists ≡ reached)
   unfolding reached
-  passed = checks-passed c.lists c.coefs c.positions (legal_answers (checked_of c) e).is
+  passing = checks-passed c.lists c.coefs c.positions (passed_answers (checked_of c) e).is
 
   pub checks-answer : checked_of c ≡ answer c.lists
   unfolding reached
-  checks-answer = (legal_answers (checked_of c) e).is ∙ ap answer (sym passed.1)
+  checks-answer = (passed_answers (checked_of c) e).is ∙ ap answer (sym passing.1)
 
   pub lists_legal : ListsLegal c.lists.breaks c.lists.degrees c.lists.orders
-  lists_legal = checked_legal c.lists.breaks c.lists.degrees c.lists.orders passed.0.space
+  lists_legal = checked_legal c.lists.breaks c.lists.degrees c.lists.orders passing.0.space
 
   pub coefficients_good : Coefficients c.coefs (row_count c.lists)
-  coefficients_good = record { count = passed.0.entries.count; small = λ i. small i (le_or_lt (length c.coefs) i) }
+  coefficients_good = record { count = passing.0.entries.count; small = λ i. small i (le_or_lt (length c.coefs) i) }
     where
       none-bad : (i : ℕ) → i < length c.coefs → nat_abs (get_or c.coefs i (pos 0)) ≤ 1000000
       none-bad i h = good-coefficient c.coefs i
-          (first-none_inverts (bad_coefficient c.coefs) (length c.coefs) passed.0.entries.coefficients i h)
+          (first-none_inverts (bad_coefficient c.coefs) (length c.coefs) passing.0.entries.coefficients i h)
 
       small : (i : ℕ) → (length c.coefs ≤ i) ⊎ (i < length c.coefs) → nat_abs (get_or c.coefs i (pos 0)) ≤ 1000000
       small i (inl h) = rw (get_or-eq_default c.coefs (pos 0) {n = i} h) (omega arith)
@@ -67,7 +66,7 @@ module _ (c : Call) (e : legality (checked_of c) ≡ Legal) where
   pub positions_good : (k : ℕ) → k < length c.positions → Within c.lists (get_or c.positions k (pos 0))
   positions_good k h =
       let none-bad = first-none_inverts (bad_position c.lists c.positions) (length c.positions)
-      passed.0.entries.positions_inside in
+      passing.0.entries.positions_inside in
       let inside = good-position c.lists c.positions k (none-bad k h) in
       record { low = inside.0; high = inside.1 }
 
@@ -99,7 +98,7 @@ module _ (c : Call) (l : Lent) where
       pub call_refused : {code place : ℕ} → checked_of c ≡ refusal code place → outcome_of c l ≡ refusal code place
       call_refused e = all_long ∙ then_refuses (curve_read c.coefs c.positions) e
 
-      module _ (e : legality (checked_of c) ≡ Legal) where
+      module _ (e : answer (tt {0}) ≡ passed (checked_of c)) where
         all_pass : outcome_of c l ≡ with_answer (result_of c) (weights c.lists)
         unfolding curve_read
         all_pass = all_long ∙ then_answers (curve_read c.coefs c.positions) (checks-answer c e)

@@ -1,13 +1,12 @@
 -- What the start of a curve call leaves: the machine's answer, both weight buffers, and the ordinates of all columns.
-use Rattle.std.specs.Prelude.{List, ◌++◌, ◌≡◌, ℕ, ◌*◌, ◌<◌, ◌≤◌, ℤ, pos, length, get_or, drop}
+use Rattle.std.specs.Prelude.{List, ◌++◌, ◌≡◌, ℕ, ◌*◌, ◌<◌, ◌≤◌, ℤ, pos, length, get_or, drop, Result, Ok, Err}
 use Rattle.base_outcome.specs.Outcome.{Outcome, answer, refusal}
 use Rattle.spec_spline.specs.Space.{Space, column_count, row_count}
 use Rattle.spec_spline.specs.Table.{Table}
 use Rattle.spec_spline.specs.Reading.{earlywood, latewood, coefficient, ordinates, values}
 use Rattle.spec_spline.specs.CurveCall.{CurveResult, curve_outcome, curve_numerators, curve_denominators}
 use Rattle.build_space.specs.Legal.{ListsLegal}
-use Rattle.base_outcome.specs.declared.Answer.{Answer}
-use Rattle.base_outcome.specs.declared.Answer.TheVariants.{Count, Refused}
+use Rattle.base_outcome.specs.declared.Refusal.{Refusal}
 use Rattle.curve_ordinates.specs.Ordinates.{Coefficients}
 use Rattle.curve_places.specs.Offsets.{column_limit, Within}
 use Rattle.curve_parts.specs.Parts.{Lent}
@@ -47,12 +46,12 @@ pub record CurvesHeld (c : Call) (n : ℕ) (before after : Lent) : Type 0 where
       ++ drop (column_count c.lists) before.late
 
 -- What the machine's answer tells: the curves are held, or the call is refused so.
-abbrev pub CurvesTold : Call → Lent → Lent → Answer → Type 0
-CurvesTold c before after (Count n) = CurvesHeld c n before after
-CurvesTold c before after (Refused code place) = outcome_of c before ≡ refusal code place
+abbrev pub CurvesTold : Call → Lent → Lent → Result ℕ Refusal → Type 0
+CurvesTold c before after (Ok n) = CurvesHeld c n before after
+CurvesTold c before after (Err r) = outcome_of c before ≡ refusal r.code r.place
 
 -- The answer, and both weight buffers as after a curve call.
-pub record CurvesLeave (c : Call) (r : Answer) (before after : Lent) : Type 0 where
+pub record CurvesLeave (c : Call) (r : Result ℕ Refusal) (before after : Lent) : Type 0 where
   pub told : CurvesTold c before after r
   pub numerators_are : after.num ≡ curve_numerators c.lists (outcome_of c before) before.num
   pub denominators_are : after.den ≡ curve_denominators c.lists (outcome_of c before) before.den

@@ -6,7 +6,7 @@ ghost use Rattle.build_space.specs.Machine.{space};
 ghost use Rattle.curve_parts.specs.Parts.{lent};
 ghost use Rattle.curve_start.specs.Machine.{ColumnRoom, call, CurvesLeave};
 
-use base_outcome::{Answer, codes};
+use base_outcome::{Refusal, codes};
 
 // Makes the tests of a curve call at these positions with `room` cells for values, builds the weights, and writes the ordinates of
 // all columns for each wood part. The count of rows, or a refusal's code and place.
@@ -21,7 +21,7 @@ pub fn build_curves(
     den: &mut [i64],
     early: &mut [i32],
     late: &mut [i32],
-) -> Answer
+) -> Result<usize, Refusal>
     requires { ColumnRoom (lent num.old den.old early.old late.old) }
     ensures { CurvesLeave (call (space breaks.now degrees.now orders.now) coefs.now
         positions.now room) result
@@ -29,19 +29,23 @@ pub fn build_curves(
         (lent num.new den.new early.new late.new) }
 {
     if num.len() < build_cells::TABLE_CELLS {
-        return Answer::Refused(codes::SHORT_BUFFER, 0);
+        return Err(Refusal {
+            code: codes::SHORT_BUFFER,
+            place: 0,
+        });
     }
     if den.len() < build_cells::TABLE_CELLS {
-        return Answer::Refused(codes::SHORT_BUFFER, 1);
+        return Err(Refusal {
+            code: codes::SHORT_BUFFER,
+            place: 1,
+        });
     }
     if room / 2 < positions.len() {
-        return Answer::Refused(codes::SHORT_BUFFER, 2);
+        return Err(Refusal {
+            code: codes::SHORT_BUFFER,
+            place: 2,
+        });
     }
-    let checked = curve_limits::check(breaks, degrees, orders, coefs, positions);
-    match checked {
-        base_outcome::Legality::Refused(code, place) => Answer::Refused(code, place),
-        base_outcome::Legality::Legal => curve_parts::build_parts(
-            breaks, degrees, orders, coefs, num, den, early, late,
-        ),
-    }
+    curve_limits::check(breaks, degrees, orders, coefs, positions)?;
+    curve_parts::build_parts(breaks, degrees, orders, coefs, num, den, early, late)
 }

@@ -25,9 +25,6 @@ module _ (d : ℕ) (u : ℤ) (o : List ℤ) where
     pub after : (j : ℕ) → k ≤ j → at r j ≡ at o j
     pub bounded : Bounded r
 
-  pub staged_none : length o ≡ 6 → Bounded o → Staged o 0
-  staged_none l b = record { long = l; before = λ j h. absurd (omega arith); after = λ j h. refl; bounded = b }
-
   pub staged_more : (r : List ℤ) (k : ℕ) (v : ℤ) → Staged r k → k < 6 → v ≡ blend d u (at r k) (at r (k + 1)) → nat_abs v ≤ ordinate_limit
       → Staged (set r k v) (k + 1)
   staged_more r k v s h e l = record {

@@ -17,13 +17,10 @@ fn stage(o: [i64; 6], n: usize, high: i64, low: i64) -> [i64; 6]
     ensures { StageIs o n high low result }
 {
     let mut r = o;
-    let mut k = 0;
-    while k < n {
+    for k in 0..n {
         let g = r[k];
         let h = r[k + 1];
-        let b = blend(g, h, high, low);
-        r[k] = b;
-        k += 1;
+        r[k] = blend(g, h, high, low);
     }
     r
 }
@@ -34,10 +31,8 @@ pub fn triangle(o: [i64; 6], p: usize, high: i64, low: i64) -> i64
     ensures { TriangleIs o p high low result }
 {
     let mut r = o;
-    let mut n = p;
-    while n > 0 {
+    for n in (1..=p).rev() {
         r = stage(r, n, high, low);
-        n -= 1;
     }
     r[0]
 }

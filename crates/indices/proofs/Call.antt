@@ -1,5 +1,6 @@
 -- What the call ends with, case by case, and what the machine answers and leaves in each.
 use mathlib.Core.Path.{◌≡◌, refl, sym, ◌∙◌, ap, ap₂}
+use mathlib.Core.Bool.{false}
 use mathlib.Core.List.{List, []}
 use mathlib.Core.Option.{Option, some, none}
 use Prim.Native.Nat.{ℕ, ◌*◌, ◌/◌, ◌<◌, ◌≤◌}
@@ -7,8 +8,11 @@ use native.Mathlib.Omega.{arith}
 use borrow.Author.Tests.{lt-ltb, le-ltb}
 use lib.IntN.{ℤ}
 use lib.ListN.{length}
+use Rattle.std.specs.Prelude.{Err, Result}
+use Rattle.base_outcome.specs.declared.Refusal.{Refusal}
+use Rattle.base_outcome.specs.Machine.{refused}
 use Rattle.base_exact.specs.Tabulate.{tab}
-use Rattle.base_exact.proofs.Decide.{cond_true, cond_false}
+use Rattle.base_exact.proofs.Decide.{cond_true, cond_false, clash}
 use Rattle.base_exact.proofs.Tabulate.{tab_ext}
 use Rattle.base_outcome.specs.Outcome.{Outcome, answer, refusal, capped, ◌then◌}
 use Rattle.base_outcome.specs.Search.{first}
@@ -18,12 +22,12 @@ use Rattle.spec_spline.specs.Table.{table_cells, numerators, denominators}
 use Rattle.spec_spline.specs.Build.{numerators_after, denominators_after}
 use Rattle.spec_spline.specs.Reading.{Wood, wood_index}
 use Rattle.spec_spline.specs.CurveCall.{CurveResult, position_limit, curve_outcome, curve_numerators, curve_denominators, values_after}
-use Rattle.base_outcome.proofs.Outcome.{then_answers, capped_small, answer_unique}
-use Rattle.base_outcome.proofs.Search.{first_ext, first_some_inverts}
+use Rattle.base_outcome.proofs.Machine.{first_passes, first_stops}
+use Rattle.base_outcome.proofs.Outcome.{then_answers, answer_unique}
+use Rattle.base_outcome.proofs.Search.{first_ext, first-none_inverts}
 use Rattle.spec_spline.proofs.Pairs.{length_pairs}
 use Rattle.spec_spline.proofs.Build.{long-enough}
 use Rattle.theorems_values.proofs.LegalCall.{answered_calls_are_legal, legal_calls_answer, values_length_lem}
-use Rattle.base_outcome.specs.declared.Answer.{Answer}
 use Rattle.spec_calls.specs.Indices.{ring_positions, ring_width, is_refused, bad_ring, index_of, ring_indices, rings_read, rings_indexed}
 use Rattle.spec_calls.specs.Indices.{indices_returned, indices_after}
 use Rattle.theorems_indices.proofs.Cells.{value_cell_lem, exact_length}
@@ -31,23 +35,33 @@ use Rattle.base_outcome.specs.Machine.{reply}
 use Rattle.indices.specs.Machine.{cells_indexed, Indexed}
 use Rattle.indices.specs.Words.{word_positions, rings_taken}
 use Rattle.indices_rings.specs.Cells.{bad_cell, cell_index}
-use Rattle.base_outcome.specs.declared.Answer.TheVariants.{Refused}
 use Rattle.indices.proofs.Positions.{words_length, outcome-same}
 
 -- ---- code 14 and the indices by the cells
 
 module _ (widths cells : List ℤ) (offset : ℕ) where
-  pub cells_refused : {i : ℕ} → first (length widths) (bad_cell widths cells offset) ≡ some i → length widths ≤ position_limit
-      → cells_indexed widths cells offset ≡ refusal 14 i
-  unfolding cells_indexed
-  cells_refused {i} e h =
-      ap (λ (o : Option ℕ). refuse_first 14 o (answer (tab (length widths) (cell_index widths cells offset)))) e
-      ∙ ap (refusal 14) (capped_small i (omega (arith, (first_some_inverts (bad_cell widths cells offset) (length widths) e).below)))
+  abbrev sought : Option ℕ
+  sought = first (length widths) (bad_cell widths cells offset)
 
-  pub cells_answered : first (length widths) (bad_cell widths cells offset) ≡ none
-      → cells_indexed widths cells offset ≡ answer (tab (length widths) (cell_index widths cells offset))
+  abbrev each : List ℤ
+  each = tab (length widths) (cell_index widths cells offset)
+
+  pub cells_refused : {code place : ℕ} → refusal code place ≡ refuse_first 14 sought (answer (tt {0}))
+      → cells_indexed widths cells offset ≡ refusal code place
   unfolding cells_indexed
-  cells_answered e = ap (λ (o : Option ℕ). refuse_first 14 o (answer (tab (length widths) (cell_index widths cells offset)))) e
+  cells_refused e = first_stops 14 sought (answer each) e
+
+  pub cells_answered : answer (tt {0}) ≡ refuse_first 14 sought (answer (tt {0})) → cells_indexed widths cells offset ≡ answer each
+  unfolding cells_indexed
+  cells_answered e = first_passes 14 sought (answer each) e
+
+  -- no ring is refused
+  pub cells_good : answer (tt {0}) ≡ refuse_first 14 sought (answer (tt {0})) → (i : ℕ) → i < length widths → bad_cell widths cells offset i ≡ false
+  cells_good e = first-none_inverts (bad_cell widths cells offset) (length widths) (none_found sought e)
+    where
+      none_found : (o : Option ℕ) → answer (tt {0}) ≡ refuse_first 14 o (answer (tt {0})) → o ≡ none
+      none_found none e = refl
+      none_found (some i) e = clash cc
 
 -- by the values, where the cells hold them
 module _ (wood : Wood) (widths : List ℤ) (r : CurveResult) (before : List ℤ) (count : length r.values ≡ length widths) where
@@ -62,7 +76,7 @@ module _ (wood : Wood) (widths : List ℤ) (r : CurveResult) (before : List ℤ)
 
 -- ---- what a call answers and leaves, by its outcome
 
-pub record Ends (s : Space) (wood : Wood) (widths : List ℤ) (o : Outcome CurveResult) (r : Answer) (num den vs is num' den' vs' is' : List ℤ) : Type 0 where
+pub record Ends (s : Space) (wood : Wood) (widths : List ℤ) (o : Outcome CurveResult) (r : Result ℕ Refusal) (num den vs is num' den' vs' is' : List ℤ) : Type 0 where
   pub answers : reply r ≡ indices_returned (o then rings_indexed wood widths)
   pub numerators_are : num' ≡ curve_numerators s o num
   pub denominators_are : den' ≡ curve_denominators s o den
@@ -70,7 +84,7 @@ pub record Ends (s : Space) (wood : Wood) (widths : List ℤ) (o : Outcome Curve
   pub indices_are : is' ≡ indices_after (o then rings_indexed wood widths) is
 
 -- as the contract says it
-pub ended : {s : Space} {wood : Wood} {widths : List ℤ} {o : Outcome CurveResult} {r : Answer} {num den vs is num' den' vs' is' : List ℤ}
+pub ended : {s : Space} {wood : Wood} {widths : List ℤ} {o : Outcome CurveResult} {r : Result ℕ Refusal} {num den vs is num' den' vs' is' : List ℤ}
     → Ends s wood widths o r num den vs is num' den' vs' is'
     → (reply r ≡ indices_returned (o then rings_indexed wood widths)) × ((num' ≡ curve_numerators s o num)
     × ((den' ≡ curve_denominators s o den) × ((vs' ≡ values_after o vs) × (is' ≡ indices_after (o then rings_indexed wood widths) is))))
@@ -80,8 +94,8 @@ module _ (s : Space) (wood : Wood) (widths : List ℤ) {o : Outcome CurveResult}
   -- a refusal of the curve call: the buffers as it leaves them, the indices as they were
   pub ends_refused : {code place : ℕ} {num' den' vs' : List ℤ} → o ≡ refusal code place → num' ≡ curve_numerators s o num
       → den' ≡ curve_denominators s o den → vs' ≡ values_after o vs
-      → Ends s wood widths o (Refused code place) num den vs is num' den' vs' is
-  unfolding reply indices_after
+      → Ends s wood widths o (Err (refused code place)) num den vs is num' den' vs' is
+  unfolding indices_after
   ends_refused e p q w = record {
     answers = sym (ap (λ x. indices_returned (x then rings_indexed wood widths)) e);
     numerators_are = p;
@@ -91,14 +105,14 @@ module _ (s : Space) (wood : Wood) (widths : List ℤ) {o : Outcome CurveResult}
   }
 
   -- code 1 leaves all
-  pub ends_unchanged : {place : ℕ} → o ≡ refusal 1 place → Ends s wood widths o (Refused 1 place) num den vs is num den vs is
+  pub ends_unchanged : {place : ℕ} → o ≡ refusal 1 place → Ends s wood widths o (Err (refused 1 place)) num den vs is num den vs is
   unfolding numerators_after denominators_after values_after
   ends_unchanged e = ends_refused e
       (sym (ap (λ x. curve_numerators s x num) e ∙ cond_false (numerators [] num) num refl))
       (sym (ap (λ x. curve_denominators s x den) e ∙ cond_false (denominators [] den) den refl)) (sym (ap (λ x. values_after x vs) e))
 
   -- an answer of the curve call: code 14 or the indices, by the cells after it
-  pub ends-indexed : {r : CurveResult} {a : Answer} {num' den' vs' is' : List ℤ} → o ≡ answer r → length r.values ≡ length widths
+  pub ends-indexed : {r : CurveResult} {a : Result ℕ Refusal} {num' den' vs' is' : List ℤ} → o ≡ answer r → length r.values ≡ length widths
       → num' ≡ curve_numerators s o num → den' ≡ curve_denominators s o den → vs' ≡ values_after o vs
       → Indexed (cells_indexed widths vs' (wood_index wood)) a is is'
       → Ends s wood widths o a num den vs is num' den' vs' is'

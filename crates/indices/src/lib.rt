@@ -34,12 +34,9 @@ fn fill_positions(first: i32, positions: &mut [i32])
     requires { length positions.old ≤ position_limit + 1 }
     ensures { positions.new ≡ word_positions first (length positions.old) }
 {
-    let mut i = 0;
-    while i < positions.len() {
+    for (i, x) in positions.iter_mut().enumerate() {
         let ring = first as i64 + i as i64;
-        let x = nearest_word(base_outcome::limits::WIDE_FINENESS * ring);
-        positions[i] = x;
-        i += 1;
+        *x = nearest_word(base_outcome::limits::WIDE_FINENESS * ring);
     }
 }
 
@@ -64,7 +61,7 @@ fn read_rings(
     num: &mut [i64],
     den: &mut [i64],
     values: &mut [i32],
-) -> base_outcome::Answer
+) -> Result<usize, base_outcome::Refusal>
     requires { length positions.old ≤ position_limit + 1 }
     ensures { CurveLeaves (curve_end (space breaks.now degrees.now orders.now) coefs.now
         (word_positions first (length positions.old)) num.old den.old values.old)
@@ -90,23 +87,16 @@ fn index_rings(
     widths: &[i32],
     values: &[i32],
     indices: &mut [i64],
-) -> base_outcome::Answer
+) -> Result<usize, base_outcome::Refusal>
     requires { IndexAsks widths.now values.now indices.old }
     ensures { Indexed (cells_indexed widths.now values.now (wood_index (wood_of wood))) result indices.old
         indices.new }
 {
     let offset = wood_index(wood);
     let bad = indices_rings::first_bad_ring(widths, values, offset);
-    match bad {
-        base_outcome::Found::At(i) => base_outcome::Answer::Refused(
-            base_outcome::codes::RING,
-            i as u32,
-        ),
-        base_outcome::Found::Nothing => {
-            indices_rings::write_indices(widths, values, offset, indices);
-            base_outcome::Answer::Count(widths.len())
-        }
-    }
+    base_outcome::refuse_first(base_outcome::codes::RING, bad)?;
+    indices_rings::write_indices(widths, values, offset, indices);
+    Ok(widths.len())
 }
 
 // Builds the weights, writes both values of each ring, and then the named part's indices, one a ring. Lists and buffers may have
@@ -123,7 +113,7 @@ pub fn indices(
     den: &mut [i64],
     values: &mut [i32],
     indices: &mut [i64],
-) -> base_outcome::Answer
+) -> Result<usize, base_outcome::Refusal>
     ensures { let e = indices_end (record {
       wood = wood_of wood;
       space = space breaks.now degrees.now orders.now;
@@ -139,20 +129,32 @@ pub fn indices(
         × ((den.new ≡ e.denominators) × ((values.new ≡ e.values) × (indices.new ≡ e.indices)))) }
 {
     if num.len() < build_cells::TABLE_CELLS {
-        return base_outcome::Answer::Refused(base_outcome::codes::SHORT_BUFFER, 0);
+        return Err(base_outcome::Refusal {
+            code: base_outcome::codes::SHORT_BUFFER,
+            place: 0,
+        });
     }
     if den.len() < build_cells::TABLE_CELLS {
-        return base_outcome::Answer::Refused(base_outcome::codes::SHORT_BUFFER, 1);
+        return Err(base_outcome::Refusal {
+            code: base_outcome::codes::SHORT_BUFFER,
+            place: 1,
+        });
     }
     if values.len() / 2 < widths.len() {
-        return base_outcome::Answer::Refused(base_outcome::codes::SHORT_BUFFER, 2);
+        return Err(base_outcome::Refusal {
+            code: base_outcome::codes::SHORT_BUFFER,
+            place: 2,
+        });
     }
     if indices.len() < widths.len() {
-        return base_outcome::Answer::Refused(base_outcome::codes::SHORT_BUFFER, 3);
+        return Err(base_outcome::Refusal {
+            code: base_outcome::codes::SHORT_BUFFER,
+            place: 3,
+        });
     }
     let mut positions = [0; MOST_RINGS];
     let n = rings_taken(widths.len());
-    let read = read_rings(
+    read_rings(
         breaks,
         degrees,
         orders,
@@ -162,9 +164,6 @@ pub fn indices(
         num,
         den,
         values,
-    );
-    match read {
-        base_outcome::Answer::Refused(code, place) => base_outcome::Answer::Refused(code, place),
-        base_outcome::Answer::Count(_) => index_rings(wood, widths, values, indices),
-    }
+    )?;
+    index_rings(wood, widths, values, indices)
 }

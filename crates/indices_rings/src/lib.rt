@@ -29,23 +29,12 @@ fn ring_is_bad(widths: &[i32], values: &[i32], offset: usize, i: usize) -> bool
     value <= 0
 }
 
-pub fn first_bad_ring(widths: &[i32], values: &[i32], offset: usize) -> base_outcome::Found
+pub fn first_bad_ring(widths: &[i32], values: &[i32], offset: usize) -> Option<usize>
     requires { RingsAt widths.now values.now offset }
     ensures { result ≡ found (Search.first (length widths.now)
         (bad_cell widths.now values.now offset)) }
 {
-    let n = widths.len();
-    let mut i = 0;
-    let found = loop {
-        if i == n {
-            break base_outcome::Found::Nothing;
-        }
-        if ring_is_bad(widths, values, offset, i) {
-            break base_outcome::Found::At(i);
-        }
-        i += 1;
-    };
-    found
+    (0..widths.len()).find(|&i| ring_is_bad(widths, values, offset, i))
 }
 
 // The index of one ring that passed code 14.
@@ -69,10 +58,7 @@ pub fn write_indices(widths: &[i32], values: &[i32], offset: usize, indices: &mu
     ensures { indices.new ≡ tab (length widths.now) (cell_index widths.now values.now offset)
         ++ drop (length widths.now) indices.old }
 {
-    let mut i = 0;
-    while i < widths.len() {
-        let z = index(widths, values, offset, i);
-        indices[i] = z;
-        i += 1;
+    for i in 0..widths.len() {
+        indices[i] = index(widths, values, offset, i);
     }
 }

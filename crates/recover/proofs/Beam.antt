@@ -8,11 +8,16 @@ use native.Mathlib.Omega.{arith}
 use lib.IntN.{ℤ, pos}
 use lib.ListN.{length, take, drop, length-append, length-drop}
 use lib.Seq.{take_all, length-take-le}
+use Rattle.std.specs.Prelude.{Err, Ok, Result}
+use Rattle.base_outcome.specs.declared.Refusal.{Refusal}
+use Rattle.base_outcome.specs.Machine.{refused}
 use Rattle.base_exact.specs.Rational.{ℚ}
-use Rattle.base_exact.proofs.Decide.{cond_true}
+use Rattle.base_exact.proofs.Decide.{cond_true, clash}
 use Rattle.base_exact.proofs.Tabulate.{tab-none}
-use Rattle.base_outcome.specs.Outcome.{Outcome, answer, refusal, capped, with_answer}
+use Rattle.base_fraction.specs.Fractions.{fractions}
+use Rattle.base_outcome.specs.Outcome.{Outcome, answer, refusal, capped}
 use Rattle.base_outcome.proofs.Outcome.{answer_unique}
+use Rattle.base_outcome.proofs.Reply.{Counted}
 use Rattle.spec_spline.specs.Space.{Space, part_end, first_column, column_count, row_count}
 use Rattle.spec_spline.specs.Table.{entry, table_cells, numerators, denominators}
 use Rattle.spec_spline.specs.Build.{weights}
@@ -30,9 +35,6 @@ use Rattle.theorems_beams.proofs.Fronts as fronts
 use Rattle.build_space.specs.Machine.{space}
 use Rattle.build_space.specs.Legal.{ListsLegal}
 use Rattle.build_space.proofs.Legal.{legal_checked, part-column-count-high}
-use Rattle.base_outcome.specs.Machine.{reply}
-use Rattle.base_outcome.specs.declared.Answer.{Answer}
-use Rattle.base_outcome.specs.declared.Answer.TheVariants.{Count, Refused}
 use Rattle.build.proofs.Beam as built
 use Rattle.spec_calls.specs.Recovery.{Combination, recovered}
 use Rattle.spec_calls.specs.RecoveryCall.{listed, numerator_of, denominator_of}
@@ -46,11 +48,24 @@ use Rattle.recover.proofs.Listed.{rest_cleared, all_cleared, zero_numerator, zer
 
 -- ---- what the machine's answer of a part says of its outcome
 
-pub part_told : (n : ℕ) (num den num' den' : List ℤ) (o : Outcome Combination) (r : Joined) → JoinsLeave o n r num den num' den'
-    → reply r.built ≡ with_answer (λ _. n) o
-unfolding reply
-part_told n num den num' den' (answer q) r left = ap (λ (x : Joined). reply x.built) left.0
-part_told n num den num' den' (refusal code place) r left = ap (λ (x : Joined). reply x.built) left.0
+module _ (n : ℕ) (num den num' den' : List ℤ) where
+  -- an answer counts its rows
+  pub part_answered : (o : Outcome Combination) (r : Result Joined Refusal) {j : Joined} → JoinsLeave o n r num den num' den' → r ≡ Ok j
+      → Counted (λ _. n) o j.rows
+  part_answered (answer q) r {j} left e = record { result = q; is = refl; count = (let z : j ≡ record { rows = n; of = fractions q.coefficients } = cc (e, left.0) in ap (λ (x : Joined). x.rows) z) }
+  part_answered (refusal code place) r left e = absurd (clash (cc (e, left.0)))
+
+  -- and its coefficients are those of the rows
+  pub part_coefficients : (q : Combination) (r : Result Joined Refusal) {j : Joined} → JoinsLeave (answer q) n r num den num' den' → r ≡ Ok j
+      → j.of ≡ fractions q.coefficients
+  part_coefficients q r {j} left e = let z : j ≡ record { rows = n; of = fractions q.coefficients } = cc (e, left.0) in ap (λ (x : Joined). x.of) z
+
+  -- a refusal is the outcome's
+  pub part_stopped : (o : Outcome Combination) (r : Result Joined Refusal) {e : Refusal} → JoinsLeave o n r num den num' den' → r ≡ Err e
+      → o ≡ refusal e.code e.place
+  part_stopped (answer q) r left e = absurd (clash (cc (e, left.0)))
+  part_stopped (refusal code place) r {e} left h =
+      let z : refused code place ≡ e = cc (h, left.0) in ap (λ (x : Refusal). refusal x.code x.place) z
 
 -- ---- the parts of a beam
 
@@ -88,7 +103,7 @@ module _ (b d o : List ℤ) (legal : ListsLegal b d o) (ordinates : List ℤ) (s
 
   module _ {num₀ den₀ coef_num₀ coef_den₀ num den coef_num coef_den : List ℤ} {rows a : ℕ}
       (st : Before s ordinates num₀ den₀ coef_num₀ coef_den₀ num den coef_num coef_den rows a) where
-    abbrev Ends : Outcome Combination → Answer → List ℤ → List ℤ → List ℤ → List ℤ → Type 0
+    abbrev Ends : Outcome Combination → Result ℕ Refusal → List ℤ → List ℤ → List ℤ → List ℤ → Type 0
     Ends o' r num' den' coef_num' coef_den' = BeamEnds s (length ordinates) o' r num₀ den₀ coef_num₀ coef_den₀ num' den' coef_num' coef_den'
 
     pub rows-within : rows ≤ length ordinates
@@ -159,12 +174,11 @@ module _ (b d o : List ℤ) (legal : ListsLegal b d o) (ordinates : List ℤ) (s
           → table_cells ≤ length num → table_cells ≤ length den → length ordinates ≤ length coef_num₀ → length ordinates ≤ length coef_den₀
           → Kept num num' → Kept den den' → num'' ≡ filled 0 table_cells (pos 0) num' → den'' ≡ filled 0 table_cells (pos 1) den'
           → coef_num'' ≡ filled 0 (length ordinates) (pos 0) coef_num → coef_den'' ≡ filled 0 (length ordinates) (pos 1) coef_den
-          → Ends (recovered s ordinates) (Refused code at) num'' den'' coef_num'' coef_den''
-      unfolding reply
+          → Ends (recovered s ordinates) (Err (refused code at)) num'' den'' coef_num'' coef_den''
       part_refused {code} {place} {at} {num'} {den'} {num''} {den''} {coef_num''} {coef_den''} placed e long long' room room' k k' p q u v =
           let x = built.checks b d o legal in
           let told = recovered-clears part own code place e in
-          subst (λ o'. Ends o' (Refused code at) num'' den'' coef_num'' coef_den'')
+          subst (λ o'. Ends o' (Err (refused code at)) num'' den'' coef_num'' coef_den'')
           (sym (refused_front s x (part_end s a) (part-ends s a l).boundary ordinates size
           (front-refuses s (orders_fit s x) a starts ordinates size st.answers e)))
           (record {
@@ -180,12 +194,11 @@ module _ (b d o : List ℤ) (legal : ListsLegal b d o) (ordinates : List ℤ) (s
     -- after the last part
     pub parts_done : length d ≤ a → length ordinates ≤ length coef_num₀ → length ordinates ≤ length coef_den₀ → {coef_num'' coef_den'' : List ℤ}
         → coef_num'' ≡ filled rows (length ordinates) (pos 0) coef_num → coef_den'' ≡ filled rows (length ordinates) (pos 1) coef_den
-        → Ends (recovered s ordinates) (Count rows) num den coef_num'' coef_den''
-    unfolding reply
+        → Ends (recovered s ordinates) (Ok rows) num den coef_num'' coef_den''
     parts_done l room room' {coef_num''} {coef_den''} u v =
         let w = built.parts_whole b d o legal st.state l in
         let all : a ≡ length d = omega (arith, st.state.boundary.within) in
-        subst (λ o'. Ends o' (Count rows) num den coef_num'' coef_den'')
+        subst (λ o'. Ends o' (Ok rows) num den coef_num'' coef_den'')
         (sym (ap₂ recovered (sym w.front) (sym (take_all (first_column s a) ordinates (omega (arith, size, ap (first_column s) all)))) ∙ st.answers))
         (record {
           answers = ap answer w.rows_are;

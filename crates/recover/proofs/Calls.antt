@@ -9,6 +9,8 @@ use borrow.Author.Tests.{lt-ltb, le-ltb}
 use lib.Dec.{eqb}
 use lib.IntN.{ℤ}
 use lib.ListN.{length}
+use Rattle.std.specs.Prelude.{Err}
+use Rattle.base_outcome.specs.Machine.{refused}
 use Rattle.base_exact.proofs.Decide.{cond_true, cond_false}
 use Rattle.base_outcome.specs.Outcome.{Outcome, answer, refusal, refuse, largest_place, capped, ◌then◌}
 use Rattle.base_outcome.specs.Search.{first}
@@ -18,8 +20,6 @@ use Rattle.spec_spline.specs.Table.{table_cells}
 use Rattle.base_outcome.proofs.Outcome.{answer_not_refusal, then_answers, then_refuses}
 use Rattle.spec_spline.proofs.Legal.{refusal-code, first_code, checked-code}
 use Rattle.spec_spline.proofs.Build.{long-enough}
-use Rattle.base_outcome.specs.Machine.{reply}
-use Rattle.base_outcome.specs.declared.Answer.TheVariants.{Refused}
 use Rattle.spec_calls.specs.Recovery.{Combination, recovered}
 use Rattle.spec_calls.specs.RecoveryCall.{bad_ordinate, legal_ordinates, recovery_outcome, clears_all}
 use Rattle.recover_limits.specs.Ordinates.{ordinates_checked}
@@ -99,8 +99,7 @@ ordinates-keep s ordinates {code} {place} e = go (eqb (length ordinates) (column
     go false r = refusal-code Keeps 18 largest_place refl r
 
 pub beam_unchanged : (s : Space) (n : ℕ) {num den coef_num coef_den : List ℤ} {code place : ℕ} → clears_all code ≡ false
-    → BeamEnds s n (refusal code place) (Refused code place) num den coef_num coef_den num den coef_num coef_den
-unfolding reply
+    → BeamEnds s n (refusal code place) (Err (refused code place)) num den coef_num coef_den num den coef_num coef_den
 beam_unchanged s n kept = record {
   answers = refl;
   numerators_are = sym (cond_false _ _ kept);

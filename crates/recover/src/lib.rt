@@ -6,7 +6,7 @@ ghost use Rattle.build_space.specs.Machine.{space};
 ghost use Rattle.base_outcome.specs.Machine.{reply};
 ghost use Rattle.spec_calls.specs.RecoveryCall.{recovery_end};
 
-use base_outcome::{Answer, Legality, codes};
+use base_outcome::{Refusal, codes};
 
 mod parts;
 
@@ -22,7 +22,7 @@ pub fn coefficients(
     den: &mut [i64],
     coef_num: &mut [i64],
     coef_den: &mut [i64],
-) -> Answer
+) -> Result<usize, Refusal>
     ensures { let e = recovery_end (space breaks.now degrees.now orders.now)
         ordinates.now num.old den.old coef_num.old coef_den.old in
         (reply result ≡ e.answers) × ((num.new ≡ e.numerators)
@@ -30,28 +30,32 @@ pub fn coefficients(
         × (coef_den.new ≡ e.coefficient_denominators)))) }
 {
     if num.len() < build_cells::TABLE_CELLS {
-        return Answer::Refused(codes::SHORT_BUFFER, 0);
+        return Err(Refusal {
+            code: codes::SHORT_BUFFER,
+            place: 0,
+        });
     }
     if den.len() < build_cells::TABLE_CELLS {
-        return Answer::Refused(codes::SHORT_BUFFER, 1);
+        return Err(Refusal {
+            code: codes::SHORT_BUFFER,
+            place: 1,
+        });
     }
     if coef_num.len() < ordinates.len() {
-        return Answer::Refused(codes::SHORT_BUFFER, 3);
+        return Err(Refusal {
+            code: codes::SHORT_BUFFER,
+            place: 3,
+        });
     }
     if coef_den.len() < ordinates.len() {
-        return Answer::Refused(codes::SHORT_BUFFER, 4);
+        return Err(Refusal {
+            code: codes::SHORT_BUFFER,
+            place: 4,
+        });
     }
-    let lists = build_limits::check(breaks, degrees, orders);
-    match lists {
-        Legality::Refused(code, place) => Answer::Refused(code, place),
-        Legality::Legal => {
-            let entries = recover_limits::check_ordinates(degrees, ordinates);
-            match entries {
-                Legality::Refused(code, place) => Answer::Refused(code, place),
-                Legality::Legal => parts::recover_parts(
-                    breaks, degrees, orders, ordinates, num, den, coef_num, coef_den,
-                ),
-            }
-        }
-    }
+    build_limits::check(breaks, degrees, orders)?;
+    recover_limits::check_ordinates(degrees, ordinates)?;
+    parts::recover_parts(
+        breaks, degrees, orders, ordinates, num, den, coef_num, coef_den,
+    )
 }

@@ -13,7 +13,7 @@ ghost use Rattle.recover.specs.Leaves.{CoefficientsListed, BeamEnds};
 
 use base_fraction::arrays;
 use base_fraction::arrays::Fractions;
-use base_outcome::Answer;
+use base_outcome::Refusal;
 use recover_joins::Joined;
 
 // The first n coefficients in the cells from `from` on.
@@ -24,15 +24,13 @@ fn write(coef_num: &mut [i64], coef_den: &mut [i64], from: usize, cs: Fractions,
         → from + n ≤ length num → from + n ≤ length den
         → CoefficientsListed (from + n) (done ++ ps) num den coef_num.new coef_den.new }
 {
-    let mut i = 0;
-    while i < n {
+    for i in 0..n {
         let q = arrays::fraction_at(&cs.num, &cs.den, i);
         let p = q.num;
         let d = q.den;
         let k = from + i;
         coef_num[k] = p;
         coef_den[k] = d;
-        i += 1;
     }
 }
 
@@ -46,7 +44,7 @@ fn recover_at(
     b: usize,
     num: &mut [i64],
     den: &mut [i64],
-) -> Joined
+) -> Result<Joined, Refusal>
     requires { PartAsks breaks.now degrees.now orders.now ordinates.now a b num.old den.old }
     ensures { let s = space breaks.now degrees.now orders.now in
         let part = section s a (b - a) in
@@ -75,7 +73,7 @@ pub fn recover_parts(
     den: &mut [i64],
     coef_num: &mut [i64],
     coef_den: &mut [i64],
-) -> Answer
+) -> Result<usize, Refusal>
     requires { PartsAsk breaks.now degrees.now orders.now ordinates.now num.old den.old coef_num.old
         coef_den.old }
     ensures { let s = space breaks.now degrees.now orders.now in
@@ -85,24 +83,25 @@ pub fn recover_parts(
 {
     let mut rows = 0;
     let mut a = 0;
+    // A `while`: the step is from part to part.
     while a < degrees.len() {
         let b = build_space::part_end(degrees, orders, a);
-        let joined = recover_at(breaks, degrees, orders, ordinates, a, b, num, den);
-        let built = joined.built;
-        match built {
-            Answer::Refused(code, place) => {
+        match recover_at(breaks, degrees, orders, ordinates, a, b, num, den) {
+            Err(refusal) => {
                 build_cells::clear(num, den, 0, build_cells::TABLE_CELLS);
                 build_cells::clear(coef_num, coef_den, 0, ordinates.len());
-                return Answer::Refused(code, base_outcome::place(a + place as usize));
+                return Err(Refusal {
+                    code: refusal.code,
+                    place: base_outcome::place(a + refusal.place as usize),
+                });
             }
-            Answer::Count(n) => {
-                let of = joined.of;
-                write(coef_num, coef_den, rows, of, n);
-                rows += n;
+            Ok(part) => {
+                write(coef_num, coef_den, rows, part.of, part.rows);
+                rows += part.rows;
             }
         }
         a = b;
     }
     build_cells::clear(coef_num, coef_den, rows, ordinates.len());
-    Answer::Count(rows)
+    Ok(rows)
 }

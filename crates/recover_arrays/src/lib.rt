@@ -26,14 +26,12 @@ pub fn drop_coefficient(cs: Fractions, l: usize, rows: usize) -> Fractions
     ensures { (ps : List ℚ) → cs ≡ fractions ps → length ps ≡ rows → result ≡ fractions (take l ps ++ drop (suc l) ps) }
 {
     let mut left = arrays::no_fractions();
-    let mut i = 0;
-    while i < rows - 1 {
+    for i in 0..rows - 1 {
         let from = kept_row(i, l);
         let n = cs.num[from];
         let d = cs.den[from];
         left.num[i] = n;
         left.den[i] = d;
-        i += 1;
     }
     left
 }
@@ -45,14 +43,12 @@ pub fn append(cs: Fractions, rows: usize, ordinates: &[i32], column: usize, n: u
         → result ≡ fractions (ps ++ map int (take n (drop column ordinates.now))) }
 {
     let mut all = cs;
-    let mut i = 0;
-    while i < n {
+    for i in 0..n {
         let at = rows + i;
         let from = column + i;
         let o = ordinates[from] as i64;
         all.num[at] = o;
         all.den[at] = 1;
-        i += 1;
     }
     all
 }

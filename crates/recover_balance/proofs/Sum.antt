@@ -6,9 +6,9 @@ use mathlib.Core.List.{List}
 use Prim.Native.Nat.{ℕ, zero, suc, ◌<◌, ◌≤◌}
 use native.Mathlib.Omega.{arith}
 use native.Mathlib.Nat.{eq-or-lt_of_le}
-use lib.Dec.{eqb}
 use lib.IntN.{pos}
 use lib.ListN.{length}
+use Rattle.std.specs.Prelude.{Ok, Err}
 use Rattle.base_exact.specs.Rational.{ℚ, int, ◌+ᵠ◌, ◌*ᵠ◌}
 use Rattle.base_exact.specs.Order.{is_zero}
 use Rattle.base_outcome.specs.Outcome.{Outcome, answer, refusal, refuse, ◌then◌}
@@ -18,7 +18,6 @@ use Rattle.base_outcome.proofs.Outcome.{then_answers, then_refuses}
 use Rattle.spec_calls.specs.Recovery.{fitted, jump_sum, balanced}
 use Rattle.theorems_recovery.proofs.Answers.{sum_refused}
 use Rattle.recover_balance.specs.Machine.{balance_of}
-use Rattle.recover_balance.specs.declared.Balance.TheVariants as balances
 
 module _ (j : ℕ) (qs ps : List ℚ) where
   pub sum-none : jump_sum j qs ps 0 ≡ answer (int (pos 0))
@@ -45,15 +44,16 @@ module _ (j : ℕ) (qs ps : List ℚ) where
       go ih (inr l) = sum-next n (ih (omega arith))
 
   -- what the sum tells
-  pub balance_large : {code place : ℕ} → jump_sum j qs ps (length qs) ≡ refusal code place → balances.TooLarge ≡ balance_of (balanced j qs ps)
+  pub balance_large : {code place : ℕ} → jump_sum j qs ps (length qs) ≡ refusal code place → Err 20 ≡ balance_of (balanced j qs ps)
   unfolding balanced balance_of
   balance_large {code} {place} e =
-      sym (ap balance_of (then_refuses (λ s. cond (is_zero s) (answer tt) (refuse 19 j)) e) ∙ ap (λ n. cond (eqb n 19) balances.NotZero balances.TooLarge) (sum_refused j qs ps (length qs) code place e))
+      sym (ap balance_of (then_refuses (λ s. cond (is_zero s) (answer tt) (refuse 19 j)) e)
+      ∙ ap Err (sum_refused j qs ps (length qs) code place e))
 
-  pub balance-zero : {s : ℚ} → jump_sum j qs ps (length qs) ≡ answer s → is_zero s ≡ true → balances.Zero ≡ balance_of (balanced j qs ps)
+  pub balance-zero : {s : ℚ} → jump_sum j qs ps (length qs) ≡ answer s → is_zero s ≡ true → Ok tt ≡ balance_of (balanced j qs ps)
   unfolding balanced balance_of
   balance-zero e h = sym (ap balance_of (then_answers (λ s. cond (is_zero s) (answer tt) (refuse 19 j)) e ∙ ap (λ b. cond b (answer tt) (refuse 19 j)) h))
 
-  pub balance_not : {s : ℚ} → jump_sum j qs ps (length qs) ≡ answer s → is_zero s ≡ false → balances.NotZero ≡ balance_of (balanced j qs ps)
+  pub balance_not : {s : ℚ} → jump_sum j qs ps (length qs) ≡ answer s → is_zero s ≡ false → Err 19 ≡ balance_of (balanced j qs ps)
   unfolding balanced balance_of
   balance_not e h = sym (ap balance_of (then_answers (λ s. cond (is_zero s) (answer tt) (refuse 19 j)) e ∙ ap (λ b. cond b (answer tt) (refuse 19 j)) h))

@@ -10,40 +10,23 @@ ghost use Rattle.recover_balance.specs.Machine.{balance_of};
 ghost use Rattle.recover_counted.specs.Machine.{FractionsFit};
 
 use base_fraction::arrays::Fractions;
-use base_fraction::{Counted, Fraction, arrays};
+use base_fraction::{Fraction, arrays};
+use base_outcome::codes;
 
-// The sum of coefficients times jumps.
-#[derive(Clone, Copy)]
-pub enum Balance {
-    Zero,
-    NotZero,
-    TooLarge,
-}
-
-// The sum of the rows' coefficients times their jumps, rows rising: whether it is zero.
-pub fn balanced(js: Fractions, cs: Fractions, rows: usize) -> Balance
+// The sum of the rows' coefficients times their jumps, rows rising, which must be zero; otherwise the refusal's code.
+pub fn balanced(js: Fractions, cs: Fractions, rows: usize) -> Result<(), u8>
     requires { (rows ≤ row_cells) × (FractionsFit js rows × FractionsFit cs rows) }
     ensures { (j : ℕ) (qs ps : List ℚ) → js ≡ fractions qs → cs ≡ fractions ps → length qs ≡ rows
         → result ≡ balance_of (Recovery.balanced j qs ps) }
 {
     let mut sum = Fraction { num: 0, den: 1 };
-    let mut i = 0;
-    while i < rows {
+    for i in 0..rows {
         let coefficient = arrays::fraction_at(&cs.num, &cs.den, i);
         let jump = arrays::fraction_at(&js.num, &js.den, i);
-        let next = recover_counted::add_term(sum, coefficient, jump);
-        match next {
-            Counted::Fits(s) => {
-                sum = s;
-            }
-            Counted::TooLarge => {
-                return Balance::TooLarge;
-            }
-        }
-        i += 1;
+        sum = recover_counted::add_term(sum, coefficient, jump).ok_or(codes::TOO_LARGE_TO_UNDO)?;
     }
     if sum.num == 0 {
-        return Balance::Zero;
+        return Ok(());
     }
-    Balance::NotZero
+    Err(codes::NO_COEFFICIENTS)
 }

@@ -13,7 +13,7 @@ use Rattle.base_fraction.specs.Size.{fits}
 use Rattle.base_fraction.specs.Machine as machine
 use Rattle.base_fraction.specs.Machine.{value, FractionFits}
 use Rattle.base_fraction.specs.declared.Fraction.{Fraction}
-use Rattle.base_fraction.specs.declared.Counted.TheVariants.{Fits}
+use Rattle.std.specs.Prelude.{Some}
 use Rattle.base_fraction.proofs.Value.{ratio_neg}
 use Rattle.base_outcome.specs.Outcome.{answer, refuse, ◌then◌}
 use Rattle.spec_spline.specs.Step.{count}
@@ -36,7 +36,7 @@ pub machine_sized : (j : ℕ) (q : ℚ) → machine.answer (size.count q) ≡ co
 machine_sized j q = machine_counted j q ∙ count_same j q
 
 -- a fraction that is answered
-pub sized-sized : (j : ℕ) (q : ℚ) (f : Fraction) → counted (fitted j q) ≡ Fits f → (value f ≡ q) × FractionFits f
+pub sized-sized : (j : ℕ) (q : ℚ) (f : Fraction) → counted (fitted j q) ≡ Some f → (value f ≡ q) × FractionFits f
 sized-sized j q f e = count-sized j q f (count_same j q ∙ e)
 
 pub sized-fits : (j : ℕ) (q : ℚ) {p : ℚ} → fitted j q ≡ answer p → fits p ≡ true

@@ -27,27 +27,29 @@ use Rattle.spec_calls.specs.Recovery.{Combination, undone_row, undone_rows, reco
 use Rattle.theorems_recovery.proofs.Answers.{rows-undone}
 use Rattle.theorems_recovery.proofs.Steps.{parts_of}
 use Rattle.recover_joins.specs.Leaves.{told_coefficients, Leaves}
-use Rattle.recover_joins.specs.declared.RowCoefficients.{RowCoefficients}
-use Rattle.recover_joins.specs.declared.UndoRefusal.TheVariants as refusals
+use Rattle.std.specs.Prelude.{Ok, Err}
+use Rattle.base_fraction.specs.Fractions.{fractions}
+use Rattle.base_fraction.specs.declared.arrays.Fractions.{Fractions}
 
 -- ---- what the machine's answer tells
 
-module _ {num den num' den' : List ℤ} (o : Outcome Combination) {r : RowCoefficients} (left : Leaves o r num den num' den') where
-  pub leaves_none : r.refusal ≡ refusals.None → Done (λ q. q.table) told_coefficients num den num' den' o r
-  leaves_none e = left_done (λ q. q.table) told_coefficients num den num' den' o r (λ code place z h. none_refused (sym (ap (λ (x : RowCoefficients). x.refusal) h) ∙ e)) left
-    where
-      none_refused : {code : ℕ} → refusals.Refused code ≡ refusals.None → ⊥
-      none_refused z = let x : ◌≡◌ {A = ℕ} 0 1 = cc in omega arith
+module _ {num den num' den' : List ℤ} (o : Outcome Combination) where
+  pub leaves_ok : {of : Fractions} → Leaves o (Ok of) num den num' den' → Done (λ q. q.table) told_coefficients num den num' den' o (Ok of)
+  leaves_ok {of} left = left_done (λ q. q.table) told_coefficients num den num' den' o (Ok of)
+      (λ code place z h. let x : ◌≡◌ {A = ℕ} 0 1 = cc in omega arith) left
 
-  pub leaves_some : {code : ℕ} → r.refusal ≡ refusals.Refused code → Halted (λ q. q.table) told_coefficients num den num' den' o r
-  leaves_some {code} e = left-halted (λ q. q.table) told_coefficients num den num' den' o r (λ t z h. none_refused (sym (ap (λ (x : RowCoefficients). x.refusal) h) ∙ e)) left
-    where
-      none_refused : refusals.None ≡ refusals.Refused code → ⊥
-      none_refused z = let x : ◌≡◌ {A = ℕ} 0 1 = cc in omega arith
+  pub leaves_err : {code : ℕ} → Leaves o (Err code) num den num' den'
+      → Halted (λ q. q.table) told_coefficients num den num' den' o (Err code)
+  leaves_err {code} left = left-halted (λ q. q.table) told_coefficients num den num' den' o (Err code)
+      (λ t z h. let x : ◌≡◌ {A = ℕ} 0 1 = cc in omega arith) left
 
-  -- the code that is told
-  pub code_told : {code : ℕ} → (h : Halted (λ q. q.table) told_coefficients num den num' den' o r) → r.refusal ≡ refusals.Refused code → code ≡ h.code
-  code_told h e = let z = sym e ∙ ap (λ (x : RowCoefficients). x.refusal) h.told_is in cc
+  -- the coefficients that are told, and the code
+  pub coefficients_told : {of : Fractions} → (d : Done (λ q. q.table) told_coefficients num den num' den' o (Ok of))
+      → of ≡ fractions d.reached.coefficients
+  coefficients_told d = let z = d.told_is in cc
+
+  pub code_told : {code : ℕ} → (h : Halted (λ q. q.table) told_coefficients num den num' den' o (Err code)) → code ≡ h.code
+  code_told h = let z = h.told_is in cc
 
 -- ---- a step that is answered: one coefficient less, and all fit
 

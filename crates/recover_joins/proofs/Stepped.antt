@@ -1,17 +1,16 @@
 -- A step of the build with its undoing: by the two halves of the step, and what is left after each answer and refusal.
 use mathlib.Core.Path.{◌≡◌, refl, sym, ◌∙◌, ap, subst}
-use mathlib.Core.Bool.{true, false, false≢true}
-use mathlib.Core.List.{List, []}
+use native.Mathlib.Omega.{arith}
+use mathlib.Core.List.{List}
 use Prim.Native.Nat.{ℕ, ◌≤◌}
 use lib.IntN.{ℤ}
 use lib.ListN.{length}
 use Rattle.base_exact.specs.Rational.{ℚ}
-use Rattle.base_fraction.specs.Fractions.{fractions}
 use Rattle.base_outcome.specs.Outcome.{Outcome, answer, refusal, ◌then◌}
 use Rattle.base_outcome.proofs.Outcome.{then_answers, then_refuses}
 use Rattle.spec_spline.specs.Conditions.{Entry}
 use Rattle.spec_spline.specs.Table.{Table, table_cells, numerators, denominators}
-use Rattle.spec_spline.specs.Step.{span, factors, Planned, planned, rows_renewed}
+use Rattle.spec_spline.specs.Step.{Planned, planned, rows_renewed}
 use Rattle.build_cells.specs.Held.{Kept}
 use Rattle.build_cells.proofs.Buffer.{kept-numerators, kept-denominators}
 use Rattle.build_cells.specs.Left.{LeavesIf}
@@ -19,8 +18,8 @@ use Rattle.build_cells.proofs.Left.{left-answer, left-refusal}
 use Rattle.build_step.proofs.Leaving.{renewed_refuses}
 use Rattle.spec_calls.specs.Recovery.{Combination, recover_step, undoing}
 use Rattle.recover_joins.specs.Leaves.{coefficients_of, told_coefficients, Leaves}
-use Rattle.recover_joins.specs.declared.RowCoefficients.{RowCoefficients}
-use Rattle.recover_joins.specs.declared.UndoRefusal.TheVariants as refusals
+use Rattle.std.specs.Prelude.{Result, Some, None, Err}
+use Rattle.base_fraction.specs.declared.arrays.Fractions.{Fractions}
 
 module _ (j : ℕ) (κ : List Entry) (t : Table) (ps : List ℚ) where
   -- what follows the first half of the step
@@ -33,11 +32,12 @@ module _ (j : ℕ) (κ : List Entry) (t : Table) (ps : List ℚ) where
 
   -- ---- what is left
   module _ (num den num' den' : List ℤ) where
-    abbrev Leaving : RowCoefficients → Type 0
+    abbrev Leaving : Result Fractions ℕ → Type 0
     Leaving r = Leaves (recover_step j κ (record { table = t; coefficients = ps })) r num den num' den'
 
     -- the first half is refused, or the second
-    pub leaves_unplanned : {code place : ℕ} {r : RowCoefficients} → planned j κ t ≡ refusal code place → r ≡ coefficients_of (refusal code place) → Kept num num' → Kept den den'
+    pub leaves_unplanned : {code place : ℕ} {r : Result Fractions ℕ} → planned j κ t ≡ refusal code place
+        → r ≡ coefficients_of (refusal code place) → Kept num num' → Kept den den'
         → Leaving r
     leaves_unplanned e h p q = left-refusal (λ q. q.table) told_coefficients num den num' den' (recover_planned ∙ then_refuses recovering e) h p q
 
@@ -48,17 +48,18 @@ module _ (j : ℕ) (κ : List Entry) (t : Table) (ps : List ℚ) where
       planned_is : recover_step j κ (record { table = t; coefficients = ps }) ≡ recovering p
       planned_is = recover_planned ∙ then_answers recovering e
 
-      pub leaves_unmade : {r : RowCoefficients} → LeavesIf made false num den num' den' → r ≡ record { refusal = refusals.Refused 8; of = fractions [] } → Leaving r
-      leaves_unmade {r} left h = go made refl left
+      pub leaves_unmade : LeavesIf made None num den num' den' → Leaving (Err 8)
+      leaves_unmade left = go made refl left
         where
-          go : (o : Outcome Table) → made ≡ o → LeavesIf o false num den num' den' → Leaving r
-          go (answer u) z left = absurd (false≢true left.0)
+          go : (o : Outcome Table) → made ≡ o → LeavesIf o None num den num' den' → Leaving (Err 8)
+          go (answer u) z left = absurd (let e = left.0 in let z : ◌≡◌ {A = ℕ} 0 1 = cc in omega arith)
           go (refusal code place) z left = left-refusal (λ q. q.table) told_coefficients num den num' den'
               (planned_is ∙ then_refuses (λ u. undoing j p ps then λ ds. answer (record { table = u; coefficients = ds })) z)
-              (h ∙ ap (λ m. record { refusal = refusals.Refused m; of = fractions [] }) (sym (renewed_refuses j t p.factors p.span code place z))) left.1 left.2
+              (ap Err (sym (renewed_refuses j t p.factors p.span code place z))) left.1 left.2
 
       -- the table is made: the undoing decides
-      pub leaves_made : {r : RowCoefficients} → table_cells ≤ length num → table_cells ≤ length den → LeavesIf made true num den num' den'
+      pub leaves_made : {r : Result Fractions ℕ} → table_cells ≤ length num → table_cells ≤ length den
+          → LeavesIf made (Some tt) num den num' den'
           → r ≡ coefficients_of (undoing j p ps) → Leaving r
       leaves_made {r} long long' left h = go made refl left
         where
@@ -72,6 +73,6 @@ module _ (j : ℕ) (κ : List Entry) (t : Table) (ps : List ℚ) where
               ∙ then_refuses (λ ds. answer (record { table = u; coefficients = ds })) e) h
               (subst (Kept num) (sym k) (kept-numerators u num long)) (subst (Kept den) (sym l) (kept-denominators u den long'))
 
-          go : (o : Outcome Table) → made ≡ o → LeavesIf o true num den num' den' → Leaving r
+          go : (o : Outcome Table) → made ≡ o → LeavesIf o (Some tt) num den num' den' → Leaving r
           go (answer u) z left = undoes u z left.1 left.2 (undoing j p ps) refl h
-          go (refusal code place) z left = absurd (false≢true (sym left.0))
+          go (refusal code place) z left = absurd (let e = left.0 in let z : ◌≡◌ {A = ℕ} 0 1 = cc in omega arith)

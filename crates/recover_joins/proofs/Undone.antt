@@ -1,6 +1,5 @@
 -- The coefficients after a step, as the machine holds them: the new ones without row l, and factors that divide.
 use mathlib.Core.Path.{◌≡◌, refl, sym, ◌∙◌, ap}
-use mathlib.Core.Bool.{true, false, false≢true}
 use mathlib.Core.Logic.{◌≢◌}
 use mathlib.Core.List.{List, ◌++◌}
 use Prim.Native.Nat.{ℕ, zero, suc, ◌+◌, ◌-◌, ◌<◌, ◌≤◌}
@@ -20,22 +19,23 @@ use Rattle.base_fraction.specs.Fractions.{fractions}
 use Rattle.build_counted.proofs.Counted.{Refused}
 use Rattle.build_jumps.proofs.Answers.{InArrays}
 use Rattle.recover_rows.specs.Machine.{undone_of, NonZero}
-use Rattle.recover_rows.specs.declared.Undone.{Undone}
+use Rattle.std.specs.Prelude.{Some, None}
+use Rattle.base_fraction.specs.declared.arrays.Fractions.{Fractions}
 use Rattle.base_fraction.proofs.Fractions.{entries-same, fractions_ext}
 use Rattle.recover_rows.proofs.Rows.{renewed, renewed_length, renewed_old}
 use Rattle.recover_arrays.proofs.Without.{without, without-before, without_from}
 
 -- ---- what is told
 
-pub undone_in_arrays : (o : Outcome (List ℚ)) (r : Undone) → r ≡ undone_of o → r.fit ≡ true → InArrays o r.coefficients
+pub undone_in_arrays : (o : Outcome (List ℚ)) (cs : Fractions) → undone_of o ≡ Some cs → InArrays o cs
 unfolding undone_of
-undone_in_arrays (answer cs) r e h = record { of = cs; answers = refl; is = ap (λ (x : Undone). x.coefficients) e }
-undone_in_arrays (refusal code place) r e h = absurd (false≢true (sym (ap (λ (x : Undone). x.fit) e) ∙ h))
+undone_in_arrays (answer qs) cs e = record { of = qs; answers = refl; is = cc }
+undone_in_arrays (refusal code place) cs e = absurd (let z : ◌≡◌ {A = ℕ} 0 1 = cc in omega arith)
 
-pub undone_refused : (o : Outcome (List ℚ)) (r : Undone) → r ≡ undone_of o → r.fit ≡ false → Refused o
+pub undone_refused : (o : Outcome (List ℚ)) → undone_of o ≡ None → Refused o
 unfolding undone_of
-undone_refused (answer cs) r e h = absurd (false≢true (sym h ∙ ap (λ (x : Undone). x.fit) e))
-undone_refused (refusal code place) r e h = record { code = code; place = place; refuses = refl }
+undone_refused (answer qs) e = absurd (let z : ◌≡◌ {A = ℕ} 0 1 = cc in omega arith)
+undone_refused (refusal code place) e = record { code = code; place = place; refuses = refl }
 
 -- ---- the factors of a step, but for the last, are not zero
 

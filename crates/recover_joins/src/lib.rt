@@ -1,7 +1,7 @@
 // The steps of the build, each followed by its undoing on the present coefficients of the rows.
 #![tactic(auto)]
 
-ghost use Rattle.std.specs.Prelude.{◌≡◌, List, [], ℕ, length};
+ghost use Rattle.std.specs.Prelude.{◌≡◌, List, ℕ, length};
 ghost use Rattle.base_exact.specs.Rational.{ℚ};
 ghost use Rattle.base_fraction.specs.Fractions.{fractions};
 ghost use Rattle.spec_spline.specs.Space.{Space, row_count};
@@ -12,45 +12,20 @@ ghost use Rattle.build_cells.specs.Held.{Holds, Shaped};
 ghost use Rattle.build_conditions.specs.Sides.{JoinIs};
 ghost use Rattle.build_factors.specs.Jumps.{AllFit};
 ghost use Rattle.spec_calls.specs.Recovery;
-ghost use Rattle.recover_joins.specs.declared.UndoRefusal.TheVariants as refusals;
 ghost use Rattle.recover_joins.specs.Leaves.{coefficients_of, grown_combination, Leaves, JoinsLeave};
 ghost use Rattle.spec_calls.specs.Recovery.{undoing};
 ghost use Rattle.recover_joins.specs.Asks.{UndoAsks, StepAsks, OrdersAsk, JoinAsks, JoinsAsk, PartAsks};
 
 use base_fraction::arrays;
 use base_fraction::arrays::Fractions;
-use base_outcome::{Answer, codes};
+use base_outcome::{Refusal, codes};
 use build_conditions::Join;
-use recover_balance::Balance;
 
-// The code of a refusal, if there is one.
-#[derive(Clone, Copy)]
-pub enum UndoRefusal {
-    None,
-    Refused(u8),
-}
-
-// The coefficients of the rows, if no step was refused.
-#[derive(Clone, Copy)]
-pub struct RowCoefficients {
-    pub refusal: UndoRefusal,
-    pub of: Fractions,
-}
-
-// The count of a part's rows, or the refusal with its place; and the coefficients of the rows.
+// The count of a part's rows, and the coefficients of the rows.
 #[derive(Clone, Copy)]
 pub struct Joined {
-    pub built: Answer,
+    pub rows: usize,
     pub of: Fractions,
-}
-
-fn refuse(code: u8) -> RowCoefficients
-    ensures { result ≡ record { refusal = refusals.Refused code; of = fractions [] } }
-{
-    RowCoefficients {
-        refusal: UndoRefusal::Refused(code),
-        of: arrays::no_fractions(),
-    }
 }
 
 // The coefficients after a step with these jumps and these factors of the rows f to l, which the jumps span.
@@ -61,28 +36,15 @@ fn undo(
     l: usize,
     cs: Fractions,
     rows: usize,
-) -> RowCoefficients
+) -> Result<Fractions, u8>
     requires { UndoAsks js ws f l cs rows }
     ensures { (j : ℕ) (qs us ps : List ℚ) → js ≡ fractions qs → ws ≡ fractions us → cs ≡ fractions ps → length qs ≡ rows
         → length ps ≡ rows
         → result ≡ coefficients_of (undoing j (record { jumps = qs; span = record { f = f; l = l }; factors = us }) ps) }
 {
-    let sum = recover_balance::balanced(js, cs, rows);
-    match sum {
-        Balance::TooLarge => refuse(codes::TOO_LARGE_TO_UNDO),
-        Balance::NotZero => refuse(codes::NO_COEFFICIENTS),
-        Balance::Zero => {
-            let undone = recover_rows::undo_rows(cs, ws, f, l);
-            if !undone.fit {
-                return refuse(codes::TOO_LARGE_TO_UNDO);
-            }
-            let left = recover_arrays::drop_coefficient(undone.coefficients, l, rows);
-            RowCoefficients {
-                refusal: UndoRefusal::None,
-                of: left,
-            }
-        }
-    }
+    recover_balance::balanced(js, cs, rows)?;
+    let undone = recover_rows::undo_rows(cs, ws, f, l).ok_or(codes::TOO_LARGE_TO_UNDO)?;
+    Ok(recover_arrays::drop_coefficient(undone, l, rows))
 }
 
 // One step of the build and its undoing: the coefficients of the rows that are left, or the code of the refusal.
@@ -94,32 +56,19 @@ fn recover_step(
     rows: usize,
     columns: usize,
     cs: Fractions,
-) -> RowCoefficients
+) -> Result<Fractions, u8>
     requires { StepAsks join k num.old den.old rows columns cs }
     ensures { (s : Space) (j : ℕ) (t : Table) (ps : List ℚ) → JoinIs join s j → Holds num.old den.old t
         → Shaped t rows columns → cs ≡ fractions ps → length ps ≡ rows
         → Leaves (Recovery.recover_step j (Conditions.conditions s j k) (record { table = t; coefficients = ps })) result num.old
         den.old num.new den.new }
 {
-    let js = build_jumps::jumps(num, den, rows, join, k);
-    if !js.fit {
-        return refuse(codes::TOO_LARGE);
-    }
-    let plan = build_step::plan_step(js.of, rows);
-    let refusal = plan.refusal;
-    match refusal {
-        build_factors::StepRefusal::TooLarge => refuse(codes::TOO_LARGE),
-        build_factors::StepRefusal::Shape => refuse(codes::JUMPS),
-        build_factors::StepRefusal::None => {
-            let f = plan.f;
-            let l = plan.l;
-            let done = build_step::renew_rows(num, den, plan.of, f, l, rows, columns);
-            if !done {
-                return refuse(codes::TOO_LARGE);
-            }
-            undo(js.of, plan.of, f, l, cs, rows)
-        }
-    }
+    let js = build_jumps::jumps(num, den, rows, join, k).ok_or(codes::TOO_LARGE)?;
+    let plan = build_step::plan_step(js, rows).map_err(|refusal| refusal.code())?;
+    build_step::renew_rows(num, den, plan.of, plan.f, plan.l, rows, columns).ok_or(
+        codes::TOO_LARGE,
+    )?;
+    undo(js, plan.of, plan.f, plan.l, cs, rows)
 }
 
 // The orders 0 up to n - 1 at one join; `rows` is the number of rows before.
@@ -131,7 +80,7 @@ fn recover_orders(
     rows: usize,
     columns: usize,
     cs: Fractions,
-) -> RowCoefficients
+) -> Result<Fractions, u8>
     requires { OrdersAsk join n num.old den.old rows columns cs }
     ensures { (s : Space) (j : ℕ) (t : Table) (ps : List ℚ) → JoinIs join s j → Holds num.old den.old t
         → Shaped t rows columns → cs ≡ fractions ps → length ps ≡ rows → AllFit ps
@@ -139,24 +88,10 @@ fn recover_orders(
         num.new den.new }
 {
     let mut present = cs;
-    let mut k = 0;
-    while k < n {
-        let next = recover_step(num, den, join, k, rows - k, columns, present);
-        let refusal = next.refusal;
-        match refusal {
-            UndoRefusal::None => {
-                present = next.of;
-                k += 1;
-            }
-            UndoRefusal::Refused(code) => {
-                return refuse(code);
-            }
-        }
+    for k in 0..n {
+        present = recover_step(num, den, join, k, rows - k, columns, present)?;
     }
-    RowCoefficients {
-        refusal: UndoRefusal::None,
-        of: present,
-    }
+    Ok(present)
 }
 
 // The n orders at one join, after the rows of the segment on its right have come in with their ordinates; `rows` is the number of
@@ -170,7 +105,7 @@ fn recover_join(
     rows: usize,
     columns: usize,
     cs: Fractions,
-) -> RowCoefficients
+) -> Result<Fractions, u8>
     requires { JoinAsks ordinates.now join n num.old den.old rows columns cs }
     ensures { (s : Space) (j : ℕ) (t : Table) (ps : List ℚ) → JoinIs join s j → Holds num.old den.old t
         → Shaped t rows columns → cs ≡ fractions ps → length ps ≡ rows → AllFit ps
@@ -194,7 +129,7 @@ fn recover_joins(
     num: &mut [i64],
     den: &mut [i64],
     columns: usize,
-) -> Joined
+) -> Result<Joined, Refusal>
     requires { JoinsAsk breaks.now degrees.now orders.now ordinates.now num.old den.old columns }
     ensures { JoinsLeave (Recovery.recovered (space breaks.now degrees.now orders.now)
         ordinates.now) (row_count (space breaks.now degrees.now orders.now)) result num.old
@@ -202,32 +137,20 @@ fn recover_joins(
 {
     let mut rows = build_space::degree_at(degrees, 0) + 1;
     let mut present = recover_arrays::append(arrays::no_fractions(), 0, ordinates, 0, rows);
-    let mut j = 0;
-    while j < orders.len() {
+    for j in 0..orders.len() {
         let n = build_space::condition_count(orders, j);
         let more = build_space::degree_at(degrees, j + 1) + 1;
         let join = build_joins::join_at(breaks, degrees, j);
-        let next = recover_join(ordinates, num, den, join, n, rows, columns, present);
-        let place = base_outcome::place(j);
-        let refusal = next.refusal;
-        match refusal {
-            UndoRefusal::None => {
-                present = next.of;
-                rows = rows + more - n;
+        present = match recover_join(ordinates, num, den, join, n, rows, columns, present) {
+            Ok(next) => next,
+            Err(code) => {
+                let place = base_outcome::place(j);
+                return Err(Refusal { code, place });
             }
-            UndoRefusal::Refused(code) => {
-                return Joined {
-                    built: Answer::Refused(code, place),
-                    of: arrays::no_fractions(),
-                };
-            }
-        }
-        j += 1;
+        };
+        rows = rows + more - n;
     }
-    Joined {
-        built: Answer::Count(rows),
-        of: present,
-    }
+    Ok(Joined { rows, of: present })
 }
 
 // One part whose lists and ordinates are legal, in buffers that are long enough; after a refusal these hold whatever they hold.
@@ -238,7 +161,7 @@ pub fn recover_part(
     ordinates: &[i32],
     num: &mut [i64],
     den: &mut [i64],
-) -> Joined
+) -> Result<Joined, Refusal>
     requires { PartAsks breaks.now degrees.now orders.now ordinates.now num.old den.old }
     ensures { JoinsLeave (Recovery.recovered (space breaks.now degrees.now orders.now)
         ordinates.now) (row_count (space breaks.now degrees.now orders.now)) result num.old

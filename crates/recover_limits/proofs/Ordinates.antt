@@ -3,7 +3,6 @@ use mathlib.Core.Path.{◌≡◌, refl, ◌∙◌, ap}
 use mathlib.Core.Logic.{◌⊎◌, inl, inr}
 use mathlib.Core.Bool.{false, cond}
 use mathlib.Core.List.{List, [], map}
-use mathlib.Core.Option.{some, none}
 use Prim.Native.Nat.{ℕ, ◌<◌, ◌≤◌}
 use native.Mathlib.Omega.{arith}
 use borrow.Author.Tests.{eqb-true, eq-eqb, ne_eqb}
@@ -41,14 +40,11 @@ module _ (s : Space) (ordinates : List ℤ) where
   unfolding ordinates_checked capped
   ordinates-count h = cond_false _ _ (ne_eqb _ _ h)
 
-  module _ (h : length ordinates ≡ column_count s) where
-    pub ordinates_refused : {i : ℕ} → first (length ordinates) (bad_ordinate ordinates) ≡ some i → ordinates_checked s ordinates ≡ refusal 18 (capped i)
-    unfolding ordinates_checked
-    ordinates_refused e = cond_true _ _ (eq-eqb _ _ h) ∙ ap (λ o. refuse_first 18 o passed) e
-
-    pub ordinates-pass : first (length ordinates) (bad_ordinate ordinates) ≡ none → ordinates_checked s ordinates ≡ passed
-    unfolding ordinates_checked
-    ordinates-pass e = cond_true _ _ (eq-eqb _ _ h) ∙ ap (λ o. refuse_first 18 o passed) e
+  -- a count that fits leaves what the search finds
+  pub ordinates_sought : length ordinates ≡ column_count s
+      → ordinates_checked s ordinates ≡ refuse_first 18 (first (length ordinates) (bad_ordinate ordinates)) passed
+  unfolding ordinates_checked
+  ordinates_sought h = cond_true _ _ (eq-eqb _ _ h)
 
 -- the breakpoints and the orders do not matter to the ordinates
 pub ordinates_partial : (b d o ordinates : List ℤ) → ordinates_checked (space [] d []) ordinates ≡ ordinates_checked (space b d o) ordinates

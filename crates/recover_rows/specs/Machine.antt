@@ -1,5 +1,5 @@
 -- The machine's form of the new coefficients that the definitions of crate theorems_recovery give, and what undoing asks.
-use Rattle.std.specs.Prelude.{true, false, List, [], ◌≢◌, ◌≡◌, ℕ, suc, ◌-◌, ◌<◌, ◌≤◌, pos}
+use Rattle.std.specs.Prelude.{Option, Some, None, List, ◌≢◌, ◌≡◌, ℕ, suc, ◌-◌, ◌<◌, ◌≤◌, pos}
 use Rattle.base_exact.specs.Rational.{ℚ, int}
 use Rattle.base_outcome.specs.Outcome.{Outcome, answer, refusal}
 use Rattle.spec_spline.specs.Table.{entry, row_cells}
@@ -7,12 +7,11 @@ use Rattle.base_fraction.specs.Fractions.{fractions}
 use Rattle.base_fraction.specs.declared.arrays.Fractions.{Fractions}
 use Rattle.build_rows.specs.Rows.{UnitFactors}
 use Rattle.recover_counted.specs.Machine.{FractionsFit}
-use Rattle.recover_rows.specs.declared.Undone.{Undone}
 
 -- The new coefficients, or code 20.
-unfoldable pub undone_of : Outcome (List ℚ) → Undone
-undone_of (answer cs) = record { fit = true; coefficients = fractions cs }
-undone_of (refusal code place) = record { fit = false; coefficients = fractions [] }
+unfoldable pub undone_of : Outcome (List ℚ) → Option Fractions
+undone_of (answer cs) = Some (fractions cs)
+undone_of (refusal code place) = None
 
 -- No factor below index n is zero.
 abbrev pub NonZero : Fractions → ℕ → Type 0

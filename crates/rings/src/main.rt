@@ -6,9 +6,8 @@ ghost use Rattle.curve_ordinates.specs.Wood.{wood_of};
 ghost use Rattle.rings_pieces.specs.Piece.{Held, width_cells};
 ghost use Rattle.rings_text.specs.Printed.{series_limit};
 
-use base_outcome::limits;
+use base_outcome::{Refusal, limits};
 use curve_ordinates::Wood;
-use rings_read::Readiness;
 use std::io;
 use std::io::Print;
 
@@ -40,15 +39,13 @@ fn write_over<P: Print>(
     requires room { series_limit ≤ length out.old }
 {
     let mut start = 0;
-    let mut k = 0;
-    while k < n {
+    for k in 0..n {
         let size = rings_pieces::put_piece(
             input, wood, breaks, degrees, orders, coefs, n, names, years, counts, widths, k, start,
             out,
         );
         to.write_all(&out[..size])?;
         start += counts[k] as usize;
-        k += 1;
     }
     Ok(())
 }
@@ -109,9 +106,9 @@ fn write_header<P: Print>(to: &P) -> io::Result<()> {
 }
 
 // Writes the line of a refusal.
-fn write_refusal<P: Print>(to: &P, code: u8, place: u32) -> io::Result<()> {
+fn write_refusal<P: Print>(to: &P, refusal: Refusal) -> io::Result<()> {
     let mut line = [0u8; REFUSAL_BYTES];
-    let count = base_print::refusal(code, place, &mut line);
+    let count = base_print::refusal(refusal.code, refusal.place, &mut line);
     to.write_all(&line[..count])
 }
 
@@ -132,24 +129,24 @@ fn write_judged<P: Print>(
         input, breaks, degrees, orders, coefs, names, years, counts, widths,
     );
     match judged {
-        Readiness::Refused(code, place) => write_refusal(to, code, place),
-        Readiness::Ready(wood, b, d, o, c, n) => {
+        Ok(ready) => {
             write_header(to)?;
             write_ready(
                 to,
                 input,
-                wood,
-                &breaks[..b],
-                &degrees[..d],
-                &orders[..o],
-                &coefs[..c],
-                n,
+                ready.wood,
+                &breaks[..ready.breaks],
+                &degrees[..ready.degrees],
+                &orders[..ready.orders],
+                &coefs[..ready.coefs],
+                ready.series,
                 names,
                 years,
                 counts,
                 widths,
             )
         }
+        Err(refusal) => write_refusal(to, refusal),
     }
 }
 

@@ -1,21 +1,20 @@
 -- The first line by its two keys, and one line more of those that are counted.
 use mathlib.Core.Path.{◌≡◌, refl, sym, ◌∙◌, ap}
 use mathlib.Core.Bool.{Bool, true, false, cond}
-use mathlib.Core.List.{[], ◌∷◌}
-use mathlib.Core.Option.{Option, some, none}
+use mathlib.Core.Option.{none}
 use Prim.Native.Nat.{ℕ, zero, suc, ◌+◌, ◌-◌, ◌<◌, ◌≤◌}
 use native.Mathlib.Omega.{arith}
 use borrow.Author.Tests.{lt-ltb, le-ltb}
 use lib.Dec.{eqb}
 use lib.ListN.{length, drop, length-drop}
 use lib.Seq.{slice, drop-drop}
+use Rattle.std.specs.Prelude.{Some, None}
 use Rattle.base_text.specs.Bytes.{Text, newline, index_of, begins_with, stripped}
 use Rattle.base_text.proofs.Slice.{slice_all}
 use Rattle.base_text.proofs.Cutting.{stripped-none, stripped_some, index-within}
 use Rattle.curve_ordinates.specs.declared.Wood.TheVariants.{Earlywood, Latewood}
-use Rattle.spec_rings.specs.Parts.{earlywood_line, latewood_line, of_wood, headed, lines_end}
+use Rattle.spec_rings.specs.Parts.{earlywood_line, latewood_line, headed, lines_end}
 use Rattle.rings_input.specs.Machine.{HeadedAs}
-use Rattle.rings_input.specs.declared.FirstLine.TheVariants.{Names, Other}
 
 module _ (t : Text) where
   begun : (key : Text) → begins_with key (slice 0 (length t) t) ≡ true → begins_with key t ≡ true
@@ -24,19 +23,19 @@ module _ (t : Text) where
   not_begun : (key : Text) → begins_with key (slice 0 (length t) t) ≡ false → stripped key t ≡ none
   not_begun key e = stripped-none key t (ap (begins_with key) (sym (slice_all 0 t)) ∙ e)
 
-  pub names_earlywood : begins_with earlywood_line (slice 0 (length t) t) ≡ true → HeadedAs t (headed t) (Names Earlywood 15)
+  pub names_earlywood : begins_with earlywood_line (slice 0 (length t) t) ≡ true → HeadedAs t (headed t) (Some (record { wood = Earlywood; next = 15 }))
   unfolding headed
   names_earlywood e = let s = stripped_some earlywood_line t (begun earlywood_line e) in rw s.1 (refl, (refl, s.0))
 
   pub names_latewood : begins_with earlywood_line (slice 0 (length t) t) ≡ false → begins_with latewood_line (slice 0 (length t) t) ≡ true
-      → HeadedAs t (headed t) (Names Latewood 14)
+      → HeadedAs t (headed t) (Some (record { wood = Latewood; next = 14 }))
   unfolding headed
   names_latewood d e =
       let s = stripped_some latewood_line t (begun latewood_line e) in
       rw (not_begun earlywood_line d, s.1) (refl, (refl, s.0))
 
   pub names_other : begins_with earlywood_line (slice 0 (length t) t) ≡ false → begins_with latewood_line (slice 0 (length t) t) ≡ false
-      → HeadedAs t (headed t) Other
+      → HeadedAs t (headed t) None
   unfolding headed
   names_other d e = rw (not_begun earlywood_line d, not_begun latewood_line e) tt
 

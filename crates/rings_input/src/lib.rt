@@ -7,25 +7,31 @@ ghost use Rattle.rings_input.specs.Machine.{HeadedAs};
 
 use curve_ordinates::Wood;
 
-// The wood of the first line and where the next line begins, or another first line.
+// What the first line says: the wood. The next line begins at the index.
 #[derive(Clone, Copy)]
-pub enum FirstLine {
-    Names(Wood, usize),
-    Other,
+pub struct Heading {
+    pub wood: Wood,
+    pub next: usize,
 }
 
-// The first line of the input.
-pub fn first_line(text: &[u8]) -> FirstLine
+// The first line of the input, if it names a wood.
+pub fn first_line(text: &[u8]) -> Option<Heading>
     ensures { HeadedAs text.now (Parts.headed text.now) result }
 {
     let end = text.len();
     if base_text::fields::begins(text, 0, end, b"wood=earlywood\n") {
-        return FirstLine::Names(Wood::Earlywood, 15);
+        return Some(Heading {
+            wood: Wood::Earlywood,
+            next: 15,
+        });
     }
     if base_text::fields::begins(text, 0, end, b"wood=latewood\n") {
-        return FirstLine::Names(Wood::Latewood, 14);
+        return Some(Heading {
+            wood: Wood::Latewood,
+            next: 14,
+        });
     }
-    FirstLine::Other
+    None
 }
 
 // The index behind so many bytes 10 from an index on, or the end where there are fewer.
@@ -36,14 +42,12 @@ pub fn lines_end(text: &[u8], from: usize, count: usize) -> usize
 {
     let end = text.len();
     let mut at = from;
-    let mut left = count;
-    while left > 0 {
+    for _ in 0..count {
         let stop = base_text::fields::find(text, at, end, 10);
         if stop == end {
             return end;
         }
         at = stop + 1;
-        left -= 1;
     }
     at
 }

@@ -1,6 +1,6 @@
 -- The pieces with numbers: a line between rings 0 and 1 with one series in the year 1, which is ready; and a first line of another form.
 use mathlib.Core.Path.{◌≡◌, refl}
-use mathlib.Core.List.{List, [], ◌∷◌, ◌++◌}
+use mathlib.Core.List.{[], ◌∷◌, ◌++◌}
 use lib.IntN.{pos}
 use lib.ListN.{length}
 use Rattle.base_exact.specs.Tabulate.{tab}

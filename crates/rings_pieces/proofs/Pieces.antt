@@ -1,19 +1,18 @@
 -- What is ready can be printed: its lists fit and its names are of the form. And the header and the pieces are what the program gives.
-use mathlib.Core.Path.{◌≡◌, refl, sym, ◌∙◌, ap, ap₂}
-use mathlib.Core.Bool.{Bool, true, false, cond}
+use mathlib.Core.Path.{◌≡◌, refl, sym, ◌∙◌, ap}
+use mathlib.Core.Bool.{true}
 use mathlib.Core.List.{List, [], ◌∷◌, ◌++◌, map}
 use Prim.Native.Nat.{ℕ, zero, suc, ◌+◌, ◌*◌, ◌<◌, ◌≤◌}
 use native.Mathlib.Omega.{arith}
 use lib.IntN.{ℤ, pos}
-use lib.ListN.{length, take, drop, get_or, length-map, get_or-map}
+use lib.ListN.{length, take, drop, get_or, length-map}
 use lib.Seq.{ext_get_or}
 use Rattle.base_exact.specs.Tabulate.{tab}
 use Rattle.base_exact.proofs.Tabulate.{tab_length, tab_get_d}
-use Rattle.base_outcome.specs.Outcome.{answer, refuse, ◌then◌}
+use Rattle.base_outcome.specs.Outcome.{answer}
 use Rattle.base_outcome.proofs.Outcome.{then_inverts}
 use Rattle.base_text.specs.Bytes.{Text}
 use Rattle.spec_spline.specs.Space.{Space, lengths_fit}
-use Rattle.spec_spline.specs.Table.{table_cells}
 use Rattle.spec_spline.specs.Reading.{Wood, side_by_side}
 use Rattle.spec_spline.specs.CurveCall.{CurveResult, curve_checked, curve_read, curve_outcome}
 use Rattle.spec_spline.proofs.Legal.{fitting_inverts}
@@ -22,16 +21,14 @@ use Rattle.spec_sheet.specs.Sheet.{arguments_of, space_of}
 use Rattle.spec_sheet.specs.Printout.{joined}
 use Rattle.spec_tucson.specs.Line.{name_columns, is_name}
 use Rattle.spec_tucson.specs.Series.{Series}
-use Rattle.spec_tucson.specs.ReadCall.{names_of, years_of, counts_of, widths_of}
+use Rattle.spec_tucson.specs.ReadCall.{widths_of}
 use Rattle.theorems_tucson.proofs.Rewritten.{read_is_writable}
 use Rattle.build_space.specs.Machine.{space}
 use Rattle.spec_rings.specs.Ready.{sheet_curve, Ready, ready}
 use Rattle.spec_rings.specs.Rings.{header_line, series_text, pieces, ready_text, rings}
 use Rattle.spec_rings.proofs.Accepted.{accepted}
-use Rattle.rings_read.specs.Machine.{Front, FileHeld}
-use Rattle.rings_text.specs.Printed.{SeriesAsks, series_limit}
-use Rattle.rings_pieces.specs.Piece.{piece_of, Held, Turn, PieceAsks, PiecesAreRings, RefusalIsRings}
-use Rattle.rings_pieces.proofs.Turns.{no_series, series_at, named_at, names_at, year-at, count_at, widths_at, widths_more, widths_within, front-part, front_at}
+use Rattle.rings_pieces.specs.Piece.{piece_of, Held, Turn, PiecesAreRings, RefusalIsRings}
+use Rattle.rings_pieces.proofs.Turns.{series_at, named_at, names_at, year-at, count_at, widths_at, widths_more, widths_within, front-part, front_at}
 
 -- ---- what is ready
 

@@ -1,13 +1,13 @@
 -- Series k of a list of series in its four lists: its name, year, count and widths; and that what reading answers can be printed.
-use mathlib.Core.Path.{◌≡◌, refl, sym, ◌∙◌, ap, ap₂}
+use mathlib.Core.Path.{◌≡◌, refl, sym, ◌∙◌, ap}
 use mathlib.Core.Bool.{true}
-use mathlib.Core.List.{List, [], ◌∷◌, ◌++◌, map}
+use mathlib.Core.List.{List, [], ◌∷◌, ◌++◌}
 use mathlib.Core.Option.{none}
-use Prim.Native.Nat.{ℕ, zero, suc, ◌+◌, ◌*◌, ◌-◌, ◌<◌, ◌≤◌}
+use Prim.Native.Nat.{ℕ, zero, suc, ◌+◌, ◌*◌, ◌<◌, ◌≤◌}
 use native.Mathlib.Omega.{arith}
-use lib.IntN.{ℤ, pos}
-use lib.ListN.{length, take, drop, get_or, length-append, length-map}
-use lib.Seq.{take-take, take_at, drop_at, drop-drop, get_or-take, length-take-le}
+use lib.IntN.{pos}
+use lib.ListN.{length, take, drop, get_or, length-append}
+use lib.Seq.{take-take, take_at, drop_at, drop-drop, get_or-take}
 use Rattle.base_text.specs.Bytes.{Text}
 use Rattle.spec_tucson.specs.Line.{name_columns, is_name}
 use Rattle.spec_tucson.specs.Series.{Series}

@@ -6,9 +6,7 @@ use Rattle.base_outcome.specs.Outcome.{Outcome, answer, refusal}
 use Rattle.base_text.specs.Bytes.{Text}
 use Rattle.base_print.specs.Refusal.{refusal_line}
 use Rattle.spec_spline.specs.Reading.{Wood, side_by_side}
-use Rattle.spec_sheet.specs.SheetReading.{Lists}
 use Rattle.spec_sheet.specs.Printout.{joined}
-use Rattle.spec_tucson.specs.Series.{Series}
 use Rattle.spec_tucson.specs.ReadCall.{widths_of}
 use Rattle.spec_rings.specs.Ready.{Ready, ready}
 use Rattle.spec_rings.specs.Rings.{header_line, pieces, rings}

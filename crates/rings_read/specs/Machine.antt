@@ -1,9 +1,8 @@
 -- The machine's form of what is ready: lists at the fronts of buffers, and their lengths.
-use Rattle.std.specs.Prelude.{List, ◌≡◌, ℕ, ◌*◌, ◌≤◌, ℤ, length, take}
+use Rattle.std.specs.Prelude.{List, ◌≡◌, ℕ, ◌*◌, ◌≤◌, ℤ, length, take, Result, Ok, Err}
 use Rattle.base_outcome.specs.Codes as codes
 use Rattle.base_outcome.specs.Outcome.{Outcome, answer, refusal, ◌then◌}
-use Rattle.base_outcome.specs.declared.Answer.{Answer}
-use Rattle.base_outcome.specs.declared.Answer.TheVariants as answers
+use Rattle.base_outcome.specs.declared.Refusal.{Refusal}
 use Rattle.base_text.specs.Bytes.{Text}
 use Rattle.spec_spline.specs.Space.{Space}
 use Rattle.spec_spline.specs.Table.{table_cells}
@@ -13,12 +12,10 @@ use Rattle.spec_sheet.specs.SheetReading.{Lists}
 use Rattle.spec_tucson.specs.Line.{name_columns}
 use Rattle.spec_tucson.specs.Series.{Series}
 use Rattle.spec_tucson.specs.ReadCall.{names_of, years_of, counts_of, widths_of}
-use Rattle.sheet_read.specs.declared.Lists.{Lists as SheetAnswer}
-use Rattle.sheet_read.specs.declared.Lists.TheVariants as sheets
+use Rattle.sheet_read.specs.declared.Lengths.{Lengths}
 use Rattle.curve_ordinates.specs.Wood.{wood_of}
 use Rattle.spec_rings.specs.Ready.{text_limit, Ready, series_read}
-use Rattle.rings_read.specs.declared.Readiness.{Readiness}
-use Rattle.rings_read.specs.declared.Readiness.TheVariants as judgements
+use Rattle.rings_read.specs.declared.Ready as machine
 
 -- The list stands at the front of the buffer, in its first n cells.
 pub record Front {A : Type 0} (list : List A) (n : ℕ) (buffer : List A) : Type 0 where
@@ -41,18 +38,18 @@ pub record FileHeld (ss : List Series) (n : ℕ) (names : List ℕ) (years : Lis
   pub widths_held : Front (widths_of ss) (length (widths_of ss)) widths
 
 -- The sheet's lists are held, or its refusal is answered.
-abbrev pub SheetHeld : Outcome Lists → SheetAnswer → List ℤ → List ℤ → List ℤ → List ℤ → Type 0
-SheetHeld (answer l) (sheets.Read b d o c p) breaks degrees orders coefs = ListsHeld l b d o c breaks degrees orders coefs
-SheetHeld (answer l) (sheets.Refused place) breaks degrees orders coefs = ⊥
-SheetHeld (refusal code place) (sheets.Read b d o c p) breaks degrees orders coefs = ⊥
-SheetHeld (refusal code place) (sheets.Refused at) breaks degrees orders coefs = (code ≡ codes.sheet_line) × (place ≡ at)
+abbrev pub SheetHeld : Outcome Lists → Result Lengths ℕ → List ℤ → List ℤ → List ℤ → List ℤ → Type 0
+SheetHeld (answer l) (Ok n) breaks degrees orders coefs = ListsHeld l n.breaks n.degrees n.orders n.coefs breaks degrees orders coefs
+SheetHeld (answer l) (Err place) breaks degrees orders coefs = ⊥
+SheetHeld (refusal code place) (Ok n) breaks degrees orders coefs = ⊥
+SheetHeld (refusal code place) (Err at) breaks degrees orders coefs = (code ≡ codes.sheet_line) × (place ≡ at)
 
 -- The file's series are held, or its refusal is answered.
-abbrev pub SeriesHeld : Outcome (List Series) → Answer → List ℕ → List ℤ → List ℕ → List ℤ → Type 0
-SeriesHeld (answer ss) (answers.Count n) names years counts widths = FileHeld ss n names years counts widths
-SeriesHeld (answer ss) (answers.Refused code place) names years counts widths = ⊥
-SeriesHeld (refusal code place) (answers.Count n) names years counts widths = ⊥
-SeriesHeld (refusal code place) (answers.Refused number at) names years counts widths = (code ≡ number) × (place ≡ at)
+abbrev pub SeriesHeld : Outcome (List Series) → Result ℕ Refusal → List ℕ → List ℤ → List ℕ → List ℤ → Type 0
+SeriesHeld (answer ss) (Ok n) names years counts widths = FileHeld ss n names years counts widths
+SeriesHeld (answer ss) (Err r) names years counts widths = ⊥
+SeriesHeld (refusal code place) (Ok n) names years counts widths = ⊥
+SeriesHeld (refusal code place) (Err r) names years counts widths = (code ≡ r.code) × (place ≡ r.place)
 
 -- The file's series, where the curve call does not refuse these lists; both in the order of § 18.
 abbrev pub file_judged : Text → Space → List ℤ → Outcome (List Series)
@@ -68,11 +65,12 @@ pub record FrontsAsk (text : Text) (b : ℕ) (breaks : List ℤ) (d : ℕ) (degr
   pub coefs_fit : c ≤ length coefs
 
 -- What is ready is held by the eight buffers, or the refusal is answered.
-abbrev pub JudgedAs : Outcome Ready → Readiness → List ℤ → List ℤ → List ℤ → List ℤ → List ℕ → List ℤ → List ℕ → List ℤ → Type 0
-JudgedAs (answer r) (judgements.Ready wood b d o c n) breaks degrees orders coefs names years counts widths =
-    (r.wood ≡ wood_of wood) × ((ListsHeld r.lists b d o c breaks degrees orders coefs)
-    × (FileHeld r.series n names years counts widths))
-JudgedAs (answer r) (judgements.Refused code place) breaks degrees orders coefs names years counts widths = ⊥
-JudgedAs (refusal code place) (judgements.Ready wood b d o c n) breaks degrees orders coefs names years counts widths = ⊥
-JudgedAs (refusal code place) (judgements.Refused number at) breaks degrees orders coefs names years counts widths = (code ≡ number)
-    × (place ≡ at)
+abbrev pub JudgedAs : Outcome Ready → Result machine.Ready Refusal → List ℤ → List ℤ → List ℤ → List ℤ
+    → List ℕ → List ℤ → List ℕ → List ℤ → Type 0
+JudgedAs (answer r) (Ok m) breaks degrees orders coefs names years counts widths =
+    (r.wood ≡ wood_of m.wood) × ((ListsHeld r.lists m.breaks m.degrees m.orders m.coefs breaks degrees orders coefs)
+    × (FileHeld r.series m.series names years counts widths))
+JudgedAs (answer r) (Err e) breaks degrees orders coefs names years counts widths = ⊥
+JudgedAs (refusal code place) (Ok m) breaks degrees orders coefs names years counts widths = ⊥
+JudgedAs (refusal code place) (Err e) breaks degrees orders coefs names years counts widths = (code ≡ e.code)
+    × (place ≡ e.place)

@@ -3,32 +3,35 @@
 
 ghost use Rattle.std.specs.Prelude.{◌≡◌, ◌≤◌, length, take};
 ghost use Rattle.base_outcome.specs.Outcome.{capped};
-ghost use Rattle.base_outcome.specs.Machine.{legality};
+ghost use Rattle.base_outcome.specs.Machine.{reply, passed};
 ghost use Rattle.spec_spline.specs.Table.{table_cells};
 ghost use Rattle.spec_calls.specs.CurveAlone.{curve_alone};
 ghost use Rattle.build_space.specs.Machine.{space};
 ghost use Rattle.curve_ordinates.specs.Wood.{wood_of};
-ghost use Rattle.spec_rings.specs.Ready;
+ghost use Rattle.spec_rings.specs.Ready as spec;
 ghost use Rattle.rings_read.specs.Machine.{SheetHeld, SeriesHeld, file_judged, FrontsAsk, JudgedAs};
 
-use base_outcome::{Answer, Legality, codes, limits};
+use base_outcome::{Refusal, codes, limits};
 use curve_ordinates::Wood;
-use rings_input::FirstLine;
-use sheet_read::Lists;
+use sheet_read::Lengths;
 
 // The lines of a sheet.
 const SHEET_LINES: usize = 5;
 
-// A wood, the lengths of breakpoints, degrees, orders and coefficients, and the count of series; or a refusal.
+// What is ready: a wood, how many numbers breakpoints, degrees, orders and coefficients have, and how many series there are.
 #[derive(Clone, Copy)]
-pub enum Readiness {
-    Ready(Wood, usize, usize, usize, usize, usize),
-    Refused(u8, u32),
+pub struct Ready {
+    pub wood: Wood,
+    pub breaks: usize,
+    pub degrees: usize,
+    pub orders: usize,
+    pub coefs: usize,
+    pub series: usize,
 }
 
 // The sheet's place in the whole input: its lines stand behind the first.
 fn sheet_place(place: u32) -> u32
-    ensures { result ≡ capped (Ready.sheet_place place) }
+    ensures { result ≡ capped (spec.sheet_place place) }
 {
     if place == 0 {
         return 0;
@@ -38,28 +41,25 @@ fn sheet_place(place: u32) -> u32
 
 // A line of the file in the whole input: the first line and the sheet's stand before it.
 fn series_place(place: u32) -> u32
-    ensures { result ≡ capped (Ready.series_place place) }
+    ensures { result ≡ capped (spec.series_place place) }
 {
     base_outcome::place(place as usize + (1 + SHEET_LINES))
 }
 
-// The lists of the sheet at the fronts of the buffers.
+// The lists of the sheet at the fronts of the buffers, or the place of code 10.
 fn read_sheet(
     text: &[u8],
     breaks: &mut [i32; sheet_lines::LIST_LIMIT],
     degrees: &mut [i32; sheet_lines::LIST_LIMIT],
     orders: &mut [i32; sheet_lines::LIST_LIMIT],
     coefs: &mut [i32; sheet_read::COEFFICIENT_NUMBERS],
-) -> Lists
-    ensures { SheetHeld (Ready.sheet_read text.now) result breaks.new degrees.new orders.new
+) -> Result<Lengths, u32>
+    ensures { SheetHeld (spec.sheet_read text.now) result breaks.new degrees.new orders.new
         coefs.new }
 {
     let mut positions = [0; sheet_lines::LIST_LIMIT];
     let lists = sheet_read::read(text, breaks, degrees, orders, coefs, &mut positions);
-    match lists {
-        Lists::Refused(place) => Lists::Refused(sheet_place(place)),
-        Lists::Read(b, d, o, c, p) => Lists::Read(b, d, o, c, p),
-    }
+    lists.map_err(|place| sheet_place(place))
 }
 
 // The series of the file at the fronts of the buffers.
@@ -69,28 +69,33 @@ fn read_series(
     years: &mut [i32; tucson_text::SERIES],
     counts: &mut [u32; tucson_text::SERIES],
     widths: &mut [i32; tucson_text::WIDTHS],
-) -> Answer
-    requires { length text.now ≤ Ready.text_limit }
-    ensures { SeriesHeld (Ready.series_read text.now) result names.new years.new counts.new
+) -> Result<usize, Refusal>
+    requires { length text.now ≤ spec.text_limit }
+    ensures { SeriesHeld (spec.series_read text.now) result names.new years.new counts.new
         widths.new }
 {
     let series = tucson_read::read(text, names, years, counts, widths);
-    match series {
-        Answer::Refused(code, place) => Answer::Refused(code, series_place(place)),
-        Answer::Count(n) => Answer::Count(n),
-    }
+    series.map_err(|refusal| Refusal {
+        code: refusal.code,
+        place: series_place(refusal.place),
+    })
 }
 
 // What the curve call says of a sheet without positions.
-fn check_curve(breaks: &[i32], degrees: &[i32], orders: &[i32], coefs: &[i32]) -> Legality
-    ensures { result ≡ legality (curve_alone (space breaks.now degrees.now orders.now)
+fn check_curve(
+    breaks: &[i32],
+    degrees: &[i32],
+    orders: &[i32],
+    coefs: &[i32],
+) -> Result<(), Refusal>
+    ensures { reply result ≡ passed (curve_alone (space breaks.now degrees.now orders.now)
         coefs.now table_cells table_cells) }
 {
     let mut num = [0; build_cells::TABLE_CELLS];
     let mut den = [1; build_cells::TABLE_CELLS];
     let mut values = [0; 1];
     let positions = [0; 1];
-    let answer = curve::curve(
+    curve::curve(
         breaks,
         degrees,
         orders,
@@ -99,11 +104,8 @@ fn check_curve(breaks: &[i32], degrees: &[i32], orders: &[i32], coefs: &[i32]) -
         &mut num,
         &mut den,
         &mut values,
-    );
-    match answer {
-        Answer::Refused(code, place) => Legality::Refused(code, place),
-        Answer::Count(_) => Legality::Legal,
-    }
+    )?;
+    Ok(())
 }
 
 // The file's series at the fronts of the buffers, and then what the curve call says of the sheet's lists, which stand at the fronts of
@@ -122,23 +124,15 @@ fn judge_file(
     years: &mut [i32; tucson_text::SERIES],
     counts: &mut [u32; tucson_text::SERIES],
     widths: &mut [i32; tucson_text::WIDTHS],
-) -> Answer
+) -> Result<usize, Refusal>
     requires { FrontsAsk text.now b breaks.now d degrees.now o orders.now c coefs.now }
     ensures { SeriesHeld (file_judged text.now (space (take b breaks.now) (take d degrees.now)
         (take o orders.now)) (take c coefs.now))
         result names.new years.new counts.new widths.new }
 {
-    let series = read_series(text, names, years, counts, widths);
-    match series {
-        Answer::Refused(code, place) => Answer::Refused(code, place),
-        Answer::Count(n) => {
-            let legal = check_curve(&breaks[..b], &degrees[..d], &orders[..o], &coefs[..c]);
-            match legal {
-                Legality::Refused(code, place) => Answer::Refused(code, place),
-                Legality::Legal => Answer::Count(n),
-            }
-        }
-    }
+    let series = read_series(text, names, years, counts, widths)?;
+    check_curve(&breaks[..b], &degrees[..d], &orders[..o], &coefs[..c])?;
+    Ok(series)
 }
 
 // Reads the input and tests it in the order of the refusals. Where none comes, the lists and series stand at the fronts of the
@@ -153,43 +147,48 @@ pub fn judge(
     years: &mut [i32; tucson_text::SERIES],
     counts: &mut [u32; tucson_text::SERIES],
     widths: &mut [i32; tucson_text::WIDTHS],
-) -> Readiness
-    ensures { JudgedAs (Ready.ready input.now) result breaks.new degrees.new orders.new
+) -> Result<Ready, Refusal>
+    ensures { JudgedAs (spec.ready input.now) result breaks.new degrees.new orders.new
         coefs.new names.new years.new counts.new widths.new }
 {
     if input.len() > limits::TEXT_LIMIT {
-        return Readiness::Refused(codes::SHORT_BUFFER, 0);
+        return Err(Refusal {
+            code: codes::SHORT_BUFFER,
+            place: 0,
+        });
     }
-    let line = rings_input::first_line(input);
-    match line {
-        FirstLine::Other => Readiness::Refused(codes::SHEET_LINE, 1),
-        FirstLine::Names(wood, from) => {
-            let to = rings_input::lines_end(input, from, SHEET_LINES);
-            let lists = read_sheet(&input[from..to], breaks, degrees, orders, coefs);
-            match lists {
-                Lists::Refused(place) => Readiness::Refused(codes::SHEET_LINE, place),
-                Lists::Read(b, d, o, c, _) => {
-                    let series = judge_file(
-                        &input[to..],
-                        breaks,
-                        b,
-                        degrees,
-                        d,
-                        orders,
-                        o,
-                        coefs,
-                        c,
-                        names,
-                        years,
-                        counts,
-                        widths,
-                    );
-                    match series {
-                        Answer::Refused(code, place) => Readiness::Refused(code, place),
-                        Answer::Count(n) => Readiness::Ready(wood, b, d, o, c, n),
-                    }
-                }
-            }
-        }
-    }
+    let heading = rings_input::first_line(input).ok_or(Refusal {
+        code: codes::SHEET_LINE,
+        place: 1,
+    })?;
+    let from = heading.next;
+    let to = rings_input::lines_end(input, from, SHEET_LINES);
+    let sheet = read_sheet(&input[from..to], breaks, degrees, orders, coefs);
+    let lists = sheet.map_err(|place| Refusal {
+        code: codes::SHEET_LINE,
+        place,
+    })?;
+    let series = judge_file(
+        &input[to..],
+        breaks,
+        lists.breaks,
+        degrees,
+        lists.degrees,
+        orders,
+        lists.orders,
+        coefs,
+        lists.coefs,
+        names,
+        years,
+        counts,
+        widths,
+    )?;
+    Ok(Ready {
+        wood: heading.wood,
+        breaks: lists.breaks,
+        degrees: lists.degrees,
+        orders: lists.orders,
+        coefs: lists.coefs,
+        series,
+    })
 }

@@ -1,16 +1,16 @@
 -- How many bytes the lines of a series have at most: 100 for the numbers of a ring.
-use mathlib.Core.Path.{◌≡◌, refl, sym, ◌∙◌, ap}
+use mathlib.Core.Path.{◌≡◌, ap}
 use mathlib.Core.Bool.{Bool, true, false, cond}
 use Prim.Native.Nat.{ℕ, zero, suc, ◌+◌, ◌*◌, ◌^◌, ◌<◌, ◌≤◌}
 use native.Mathlib.Omega.{arith}
-use lib.IntN.{ℤ, pos, negsuc, nat_abs, ◌+ℤ◌, ◌*ℤ◌}
+use lib.IntN.{ℤ, pos, negsuc, nat_abs, ◌*ℤ◌}
 use lib.ListN.{length}
 use mir.Syntax.{w64}
 use mir.Val.{SFits}
 use Rattle.base_exact.specs.Floor.{floor_div}
 use Rattle.base_exact.proofs.Floor.{nearest-abs}
 use Rattle.base_exact.proofs.Integer.{abs_mul}
-use Rattle.base_exact.proofs.Word.{sfits_abs, abs_sfits, abs-add, floor-fits}
+use Rattle.base_exact.proofs.Word.{sfits_abs, abs_sfits, floor-fits}
 use Rattle.spec_calls.specs.Indices.{is_absent, index_scale, index_of}
 use Rattle.spec_table.specs.Decimals.{millionths}
 use Rattle.spec_table.specs.RingLines.{numbers_text}

@@ -1,12 +1,10 @@
 -- A text at the front of a buffer, and another put behind it.
-use mathlib.Core.Path.{◌≡◌, refl, sym, ◌∙◌, ap}
+use mathlib.Core.Path.{◌≡◌, sym, ◌∙◌, ap}
 use mathlib.Core.Logic.{◌⊎◌, inl, inr}
-use mathlib.Core.Bool.{true, cond}
 use mathlib.Core.List.{List, ◌++◌}
 use Prim.Native.Nat.{ℕ, ◌+◌, ◌-◌, ◌<◌, ◌≤◌}
 use native.Mathlib.Omega.{arith}
 use borrow.Author.Tests.{eq-eqb, ne_eqb}
-use lib.IntN.{ℤ, pos, ◌+ℤ◌}
 use lib.ListN.{length, take, get_or, length-append, get_or-append}
 use lib.Seq.{ext_get_or, get_or-take, get_or-append-add, length-take-le}
 use Rattle.base_exact.proofs.Decide.{le_or_lt}

@@ -1,23 +1,24 @@
 -- From the index call to the bytes of a series: what it refuses is the one line, what it answers the lines of its rings.
 use mathlib.Core.Path.{◌≡◌, refl, sym, ◌∙◌, ap, ap₂}
-use mathlib.Core.Bool.{Bool, true, false, cond, ◌&&◌}
-use mathlib.Core.List.{List, [], ◌∷◌, ◌++◌}
+use mathlib.Core.Bool.{Bool, true, ◌&&◌}
+use mathlib.Core.List.{List, [], ◌++◌}
 use mathlib.Core.Option.{none}
 use Prim.Native.Nat.{ℕ, ◌+◌, ◌*◌, ◌/◌, ◌^◌, ◌<◌, ◌≤◌}
 use native.Mathlib.Omega.{arith}
 use borrow.Author.Tests.{le-ltb, lt-ltb, le-leb, eq-eqb}
-use lib.Dec.{eqb, ltb, leb}
 use lib.IntN.{ℤ, pos, nat_abs, ◌+ℤ◌}
 use lib.ListN.{length, take, drop, get_or, length-append, get_or-append}
 use lib.Seq.{take_at}
+use Rattle.std.specs.Prelude.{Err, Ok, Result}
+use Rattle.std.specs.Result.{IsOk}
+use Rattle.base_outcome.specs.declared.Refusal.{Refusal}
+use Rattle.base_outcome.specs.Machine.{refused}
 use Rattle.base_exact.proofs.Decide.{cond_true, cond_false, clash}
 use Rattle.base_exact.proofs.Tabulate.{tab_length, tab_get_d}
 use Rattle.base_exact.proofs.Word.{abs-add}
 use Rattle.base_outcome.specs.Outcome.{Outcome, answer, refusal, refuse, capped, ◌then◌, with_answer}
 use Rattle.base_outcome.specs.Search.{first}
 use Rattle.base_outcome.specs.Machine.{reply}
-use Rattle.base_outcome.specs.declared.Answer.{Answer}
-use Rattle.base_outcome.specs.declared.Answer.TheVariants as answers
 use Rattle.base_outcome.proofs.Outcome.{answer_unique, answer_not_refusal, then_refuses}
 use Rattle.base_outcome.proofs.Search.{first-none_inverts}
 use Rattle.base_text.specs.Bytes.{Text}
@@ -32,11 +33,10 @@ use Rattle.spec_calls.specs.Indices.{ring_positions, ring_value, ring_width, ind
 use Rattle.spec_tucson.specs.Line.{name_columns, is_name}
 use Rattle.spec_tucson.specs.Series.{Series}
 use Rattle.spec_tucson.specs.WriteCall.{text_after}
-use Rattle.spec_table.specs.RingLines.{name_text, IndexedSeries, ring_lines}
+use Rattle.spec_table.specs.RingLines.{IndexedSeries, ring_lines}
 use Rattle.spec_table.specs.RingLinesCall.{ring_lists_fit, ring_lines_outcome, ring_lines_end}
 use Rattle.spec_table.proofs.Names.{name-short}
 use Rattle.spec_rings.specs.Rings.{indexed_series, series_values, faulty_ring, fault_line, fault_of, indexed_text, valued_text, series_text}
-use Rattle.theorems_values.specs.ValueLimits.{legal_result}
 use Rattle.theorems_values.proofs.LegalCall.{answered_calls_are_legal, legal_calls_answer, values_length_lem}
 use Rattle.theorems_values.proofs.Cells.{cells_are_close}
 use Rattle.theorems_indices.proofs.Cells.{exact_length}
@@ -55,16 +55,19 @@ module _ (wood : Wood) (i : IndexedSeries) (fit : ring_lists_fit i ≡ true) (na
   lines-answer =
       cond_true _ (refuse 2 0) fit ∙ cond_true _ (refuse 11 0) named ∙ cond_true _ (refuse 1 0) (le-leb (length (ring_lines wood i)) (length out) room)
 
-  module _ (a : Answer) (replies : reply a ≡ (ring_lines_end wood i out).answers) where
+  module _ (a : Result ℕ Refusal) (replies : reply a ≡ (ring_lines_end wood i out).answers) where
     answered : reply a ≡ answer (length (ring_lines wood i))
     answered = replies ∙ ap (with_answer length) lines-answer
 
-    pub never_refused : {code place : ℕ} → a ≡ answers.Refused code place → ⊥
-    unfolding reply
-    never_refused v = answer_not_refusal answered (ap reply v)
+    pub lines_ok : IsOk a
+    lines_ok = go a answered
+      where
+        go : (r : Result ℕ Refusal) {n : ℕ} → reply r ≡ answer n → IsOk r
+        go (Ok m) e = refl
+        go (Err r) e = clash cc
 
-    pub lines-front : {n : ℕ} {end : List ℕ} → a ≡ answers.Count n → end ≡ (ring_lines_end wood i out).text → Front (ring_lines wood i) n end
-    unfolding reply text_after
+    pub lines-front : {n : ℕ} {end : List ℕ} → a ≡ Ok n → end ≡ (ring_lines_end wood i out).text → Front (ring_lines wood i) n end
+    unfolding text_after
     lines-front {n} {end} v e =
         let k : n ≡ length (ring_lines wood i) = answer_unique (ap reply v) answered in
         let t = ring_lines wood i in
@@ -125,10 +128,10 @@ module _ (wood : Wood) (s : Space) (coefs : List ℤ) (name : Text) (year : ℤ)
     unfolding series_text
     text_is = ap (valued_text wood series) (values_are ∙ sym outcome_is)
 
-    module _ (a : Answer) (replies : reply a ≡ indices_returned (outcome then rings_indexed wood widths)) where
-      pub refused_text : {code place : ℕ} → a ≡ answers.Refused code place
+    module _ (a : Result ℕ Refusal) (replies : reply a ≡ indices_returned (outcome then rings_indexed wood widths)) where
+      pub refused_text : {code place : ℕ} → a ≡ Err (refused code place)
           → fault_line name (year +ℤ pos (faulty_ring code place)) code ≡ series_text wood s coefs series
-      unfolding reply valued_text indexed_text
+      unfolding valued_text indexed_text
       refused_text {code} {place} v = sym (text_is ∙ go outcome (sym replies ∙ ap reply v))
         where
           indexed : (r : CurveResult) (i : Outcome (List ℤ)) → indices_returned i ≡ refusal code place → indexed_text wood series r i ≡ fault_of series code place
@@ -146,8 +149,7 @@ module _ (wood : Wood) (s : Space) (coefs : List ℤ) (name : Text) (year : ℤ)
         pub is : outcome ≡ answer result
         pub indices_are : rings_indexed wood widths result ≡ answer indexed
 
-      pub worked : {m : ℕ} → a ≡ answers.Count m → Worked
-      unfolding reply
+      pub worked : {m : ℕ} → a ≡ Ok m → Worked
       worked {m} v = go outcome refl (sym replies ∙ ap reply v)
         where
           inner : (r : CurveResult) → outcome ≡ answer r → (i : Outcome (List ℤ)) → rings_indexed wood widths r ≡ i → indices_returned i ≡ answer m → Worked
@@ -158,7 +160,7 @@ module _ (wood : Wood) (s : Space) (coefs : List ℤ) (name : Text) (year : ℤ)
           go (answer r) e h = inner r e (rings_indexed wood widths r) refl h
           go (refusal c p) e h = absurd (answer_not_refusal h refl)
 
-      module _ {m : ℕ} (v : a ≡ answers.Count m) where
+      module _ {m : ℕ} (v : a ≡ Ok m) where
         abbrev r : CurveResult
         r = (worked v).result
 

@@ -1,5 +1,5 @@
 -- What printing a series asks: a name of the form, widths and years as files have them, lists that fit each other, and room.
-use Rattle.std.specs.Prelude.{true, List, ◌≡◌, ℕ, ◌*◌, ◌≤◌, ℤ, length}
+use Rattle.std.specs.Prelude.{true, List, ◌≡◌, ℕ, ◌*◌, ◌≤◌, length}
 use Rattle.base_text.specs.Bytes.{Text}
 use Rattle.spec_spline.specs.Space.{Space, lengths_fit}
 use Rattle.spec_spline.specs.CurveCall.{position_limit}

@@ -10,7 +10,7 @@ ghost use Rattle.rings_text.specs.Printed.{FaultAsks, LinesAsk, SeriesAsks};
 ghost use Rattle.build_space.specs.Machine.{space};
 ghost use Rattle.curve_ordinates.specs.Wood.{wood_of};
 
-use base_outcome::{Answer, codes, limits};
+use base_outcome::{codes, limits};
 use curve_ordinates::Wood;
 
 // The most rings that an index call takes.
@@ -81,11 +81,7 @@ fn put_lines(
       indices = indices.now;
     })) result out.new }
 {
-    let lines = table_lines::ring_lines(wood, name, first, widths, values, indices, out);
-    match lines {
-        Answer::Refused(_, _) => 0,
-        Answer::Count(count) => count,
-    }
+    table_lines::ring_lines(wood, name, first, widths, values, indices, out).unwrap()
 }
 
 // A series of no more rings than an index call takes: their lines, or the line of its refusal.
@@ -124,12 +120,12 @@ fn put_indexed(
         &mut ring_indices,
     );
     match answer {
-        Answer::Refused(code, place) => {
-            let ring = fault_ring(code, place);
+        Err(refusal) => {
+            let ring = fault_ring(refusal.code, refusal.place);
             let year = year_of(first, ring as usize);
-            put_fault(name, year, code, out)
+            put_fault(name, year, refusal.code, out)
         }
-        Answer::Count(_) => {
+        Ok(_) => {
             let cells = 2 * n;
             put_lines(
                 wood,

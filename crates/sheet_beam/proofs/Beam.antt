@@ -8,6 +8,8 @@ use native.Mathlib.Nat.{zero-add}
 use native.Mathlib.Omega.{arith}
 use lib.IntN.{ℤ}
 use lib.ListN.{length}
+use Rattle.std.specs.Prelude.{Err, Ok, Result}
+use Rattle.base_outcome.specs.declared.Refusal.{Refusal}
 use Rattle.base_exact.proofs.Decide.{le_or_lt}
 use Rattle.base_outcome.specs.Outcome.{answer, with_answer}
 use Rattle.spec_spline.specs.Space.{Space, segments, part_end, first_column, column_count, conditions_before, row_count, rows_before}
@@ -23,8 +25,6 @@ use Rattle.theorems_weights.proofs.PublishedBasis.{rows_and_columns}
 use Rattle.build_space.specs.Legal.{ListsLegal, PartLegal}
 use Rattle.build_space.proofs.Legal.{checked_legal, legal_first-column-high, legal_row-count-sum, part-column-count-high}
 use Rattle.base_outcome.specs.Machine.{reply}
-use Rattle.base_outcome.specs.declared.Answer.{Answer}
-use Rattle.base_outcome.specs.declared.Answer.TheVariants.{Count, Refused}
 use Rattle.base_outcome.proofs.Reply.{count_inverts, refused_inverts}
 use Rattle.build.proofs.Beam.{part_legal}
 use Rattle.theorems_beams.specs.Sections.{section, part_at}
@@ -123,11 +123,9 @@ module _ (s : Space) (x : Accepted s) where
     part-answers = (accepted-checked part part-accepted).1
 
     -- building it answers its row count
-    pub rows_told : (r : Answer) (n : ℕ) → reply r ≡ with_answer (λ _. row_count part) (weights part) → r ≡ Count n → n ≡ row_count part
-    rows_told r n e v = (count_inverts (λ _. row_count part) (weights part) (ap reply (sym v) ∙ e)).count
-
-    pub never_refused : (r : Answer) (code place : ℕ) → reply r ≡ with_answer (λ _. row_count part) (weights part) → r ≡ Refused code place → ⊥
-    never_refused r code place e v = answer_not_refusal part-answers (refused_inverts (λ _. row_count part) (weights part) (ap reply (sym v) ∙ e))
+    pub part_told : (r : Result ℕ Refusal) → reply r ≡ with_answer (λ _. row_count part) (weights part) → r ≡ Ok (row_count part)
+    part_told (Ok n) e = ap Ok (count_inverts (λ _. row_count part) (weights part) e).count
+    part_told (Err r) e = absurd (answer_not_refusal part-answers (refused_inverts (λ _. row_count part) (weights part) e))
 
     -- and leaves the buffers as long as they were
     pub numerators_long : (num : List ℤ) → table_cells ≤ length num → length (numerators_after (weights part) num) ≡ length num

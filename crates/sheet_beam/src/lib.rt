@@ -22,7 +22,7 @@ fn part_rows(
     ensures { PartBuilt (space breaks.now degrees.now orders.now) a num.old
         den.old num.new den.new result }
 {
-    let built = build::parts::build_part(
+    build::parts::build_part(
         breaks,
         degrees,
         orders,
@@ -31,11 +31,8 @@ fn part_rows(
         num,
         den,
         build_cells::ROW_CELLS,
-    );
-    match built {
-        base_outcome::Answer::Count(n) => n,
-        base_outcome::Answer::Refused(_code, _place) => 0,
-    }
+    )
+    .unwrap()
 }
 
 // The w lines of an accepted beam, part by part from the left: each part is built in the two lent buffers, and its rows and
@@ -56,6 +53,7 @@ fn put_parts(
     let mut next = at;
     let mut row = 0;
     let mut a = 0;
+    // A `while`: the step is from part to part.
     while a < degrees.len() {
         let b = build_space::part_end(degrees, orders, a);
         let column = build_space::first_column(degrees, a);

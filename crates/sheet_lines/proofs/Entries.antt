@@ -2,7 +2,7 @@
 use mathlib.Core.Path.{◌≡◌, refl, sym, ◌∙◌, ap, ap₂}
 use mathlib.Core.Bool.{Bool, true, false, cond}
 use mathlib.Core.List.{List, [], ◌∷◌}
-use mathlib.Core.Option.{Option, some, none}
+use mathlib.Core.Option as math
 use mathlib.Core.Logic.{◌⊎◌, inl, inr}
 use Prim.Native.Nat.{ℕ, suc, ◌+◌, ◌<◌, ◌≤◌}
 use native.Mathlib.Nat.{zero-add}
@@ -11,12 +11,11 @@ use borrow.Author.Tests.{le-leb, lt-leb}
 use lib.Dec.{leb}
 use lib.ListN.{length}
 use lib.Seq.{slice, slice_empty, length-slice}
+use Rattle.std.specs.Prelude.{Option, Some, None}
 use Rattle.base_exact.proofs.Decide.{le_or_lt, clash}
 use Rattle.base_text.specs.Bytes.{Text, Range, fields, fields_between, index_where}
 use Rattle.spec_sheet.specs.SheetReading.{prepended, entries, limited_list, list_of, list_limit}
 use Rattle.sheet_lines.specs.Machine.{is_some, count}
-use Rattle.sheet_lines.specs.declared.Count.{Count}
-use Rattle.sheet_lines.specs.declared.Count.TheVariants.{Entries, Bad}
 use Rattle.spec_sheet.proofs.FiveLines.{list_fields}
 use Rattle.base_text.proofs.Slice.{take_slice, drop-slice}
 use Rattle.base_text.proofs.Cutting.{index-within, fields_one, fields_more}
@@ -53,54 +52,60 @@ module _ (picks : ℕ → Bool) (text : Text) (start to stop : ℕ) (range : Ran
       go (inr h) = (fields_between picks (slice (stop + 1) to text), field_more (omega arith))
 
 -- ---- a list that is empty, and one that is not
-module _ {A : Type 0} (entry : Text → Option A) where
-  pub list_empty : (text : Text) (to : ℕ) → list_of entry (slice to to text) ≡ some []
+module _ {A : Type 0} (entry : Text → math.Option A) where
+  pub list_empty : (text : Text) (to : ℕ) → list_of entry (slice to to text) ≡ math.some []
   unfolding list_of
   list_empty text to = ap (list_of entry) (slice_empty to text)
 
 -- ---- counting, with n entries before
-abbrev pub tally : {A : Type 0} → ℕ → Option (List A) → Count
-tally n none = Bad
-tally n (some xs) = cond (leb (n + length xs) list_limit) (Entries (n + length xs)) Bad
+abbrev pub tally : {A : Type 0} → ℕ → math.Option (List A) → Option ℕ
+tally n math.none = None
+tally n (math.some xs) = cond (leb (n + length xs) list_limit) (Some (n + length xs)) None
 
-pub some_not : {A : Type 0} (o : Option A) → is_some o ≡ false → o ≡ none
-some_not none e = refl
-some_not (some x) e = clash cc
+pub some_not : {A : Type 0} (o : math.Option A) → is_some o ≡ false → o ≡ math.none
+some_not math.none e = refl
+some_not (math.some x) e = clash cc
 
-pub some_is : {A : Type 0} (o : Option A) → is_some o ≡ true → (x : A) × (o ≡ some x)
-some_is none e = clash cc
-some_is (some x) e = (x, refl)
+pub some_is : {A : Type 0} (o : math.Option A) → is_some o ≡ true → (x : A) × (o ≡ math.some x)
+some_is math.none e = clash cc
+some_is (math.some x) e = (x, refl)
 
-tally_start : {A : Type 0} (o : Option (List A)) → count (limited_list o) ≡ tally 0 o
+tally_start : {A : Type 0} (o : math.Option (List A)) → count (limited_list o) ≡ tally 0 o
 unfolding count
-tally_start none = refl
-tally_start {A} (some xs) = rw (zero-add (length xs)) (go (leb (length xs) list_limit))
+tally_start math.none = refl
+tally_start {A} (math.some xs) = rw (zero-add (length xs)) (go (leb (length xs) list_limit))
   where
-    go : (b : Bool) → count (cond b (some xs) none) ≡ cond b (Entries (length xs)) Bad
+    go : (b : Bool) → count (cond b (math.some xs) math.none) ≡ cond b (Some (length xs)) None
     go true = refl
     go false = refl
 
-module _ {A : Type 0} (entry : Text → Option A) where
-  pub tally_bad : (n : ℕ) (f : Text) (fs : List Text) → is_some (entry f) ≡ false → tally n (entries entry (f ∷ fs)) ≡ Bad
+module _ {A : Type 0} (entry : Text → math.Option A) where
+  pub tally_bad : (n : ℕ) (f : Text) (fs : List Text) → is_some (entry f) ≡ false → tally n (entries entry (f ∷ fs)) ≡ None
   unfolding entries
-  tally_bad n f fs e = ap (λ (o : Option A). tally n (prepended o (entries entry fs))) (some_not (entry f) e)
+  tally_bad n f fs e = ap (λ (o : math.Option A). tally n (prepended o (entries entry fs))) (some_not (entry f) e)
 
   pub tally_next : (n : ℕ) (f : Text) (fs : List Text) → is_some (entry f) ≡ true → tally n (entries entry (f ∷ fs)) ≡ tally (n + 1) (entries entry fs)
   unfolding entries
   tally_next n f fs e =
       let good = some_is (entry f) e in
-      ap (λ (o : Option A). tally n (prepended o (entries entry fs))) good.1 ∙ go good.0 (entries entry fs)
+      ap (λ (o : math.Option A). tally n (prepended o (entries entry fs))) good.1 ∙ go good.0 (entries entry fs)
     where
-      go : (x : A) (o : Option (List A)) → tally n (prepended (some x) o) ≡ tally (n + 1) o
-      go x none = refl
-      go x (some xs) = let e : n + suc (length xs) ≡ n + 1 + length xs = omega arith in ap (λ (k : ℕ). cond (leb k list_limit) (Entries k) Bad) e
+      go : (x : A) (o : math.Option (List A)) → tally n (prepended (math.some x) o) ≡ tally (n + 1) o
+      go x math.none = refl
+      go x (math.some xs) = let e : n + suc (length xs) ≡ n + 1 + length xs = omega arith in ap (λ (k : ℕ). cond (leb k list_limit) (Some k) None) e
+
+  -- one more field than a list may have
+  pub tally_full : (n : ℕ) (f : Text) (fs : List Text) → list_limit ≤ n → tally n (entries entry (f ∷ fs)) ≡ None
+  unfolding entries
+  tally_full n f fs h = go (entry f) (entries entry fs)
+    where
+      go : (o : math.Option A) (left : math.Option (List A)) → tally n (prepended o left) ≡ None
+      go math.none left = refl
+      go (math.some x) math.none = refl
+      go (math.some x) (math.some xs) = rw (lt-leb (n + suc (length xs)) list_limit (omega arith))
 
   pub list_count : (t : Text) → 0 < length t → count (list_of entry t) ≡ tally 0 (entries entry (fields t))
   list_count t h = ap count (list_fields entry t h) ∙ tally_start (entries entry (fields t))
 
-pub tally_full : {A : Type 0} (n : ℕ) (o : Option (List A)) → list_limit < n → tally n o ≡ Bad
-tally_full n none h = refl
-tally_full n (some xs) h = rw (lt-leb (n + length xs) list_limit (omega arith))
-
-pub tally_end : (A : Type 0) (n : ℕ) → n ≤ list_limit → tally {A = A} n (some []) ≡ Entries n
+pub tally_end : (A : Type 0) (n : ℕ) → n ≤ list_limit → tally {A = A} n (math.some []) ≡ Some n
 tally_end A n h = let e : n + 0 ≡ n = omega arith in rw (e, le-leb n list_limit h)

@@ -10,7 +10,6 @@ ghost use Rattle.spec_sheet.specs.SheetReading.{list_of};
 ghost use Rattle.sheet_lines.specs.Machine.{entry_of, is_some, count, LineAt};
 
 use base_outcome::limits;
-use base_text::numeral::Field;
 
 // The most entries of a list.
 pub const LIST_LIMIT: usize = limits::POSITION_LIMIT;
@@ -22,18 +21,11 @@ pub enum Entry {
     Pair,
 }
 
-// How many entries a list has, if it is one.
+// Where a line's list begins and ends.
 #[derive(Clone, Copy)]
-enum Count {
-    Entries(usize),
-    Bad,
-}
-
-// Where a line's list begins and ends, if the line is good.
-#[derive(Clone, Copy)]
-pub enum LineSpan {
-    List(usize, usize),
-    Bad,
+pub struct Span {
+    pub from: usize,
+    pub to: usize,
 }
 
 // Whether the part of the text is a numeral.
@@ -41,11 +33,7 @@ fn is_numeral(text: &[u8], from: usize, to: usize) -> bool
     requires { Range text.now from to }
     ensures { result ≡ is_some (Numeral.numeral (slice from to text.now)) }
 {
-    let field = base_text::numeral::numeral(text, from, to);
-    match field {
-        Field::Bad => false,
-        Field::Numeral(_) => true,
-    }
+    base_text::numeral::numeral(text, from, to).is_some()
 }
 
 // Whether the part is a pair: a numeral on either side of its first colon.
@@ -74,49 +62,46 @@ fn is_entry(text: &[u8], from: usize, to: usize, kind: Entry) -> bool
     }
 }
 
-// Looks through a list.
-fn count_list(text: &[u8], from: usize, to: usize, kind: Entry) -> Count
+// How many entries the list has, if it is one.
+fn count_list(text: &[u8], from: usize, to: usize, kind: Entry) -> Option<usize>
     requires { Range text.now from to }
     ensures { result ≡ count (list_of (entry_of kind) (slice from to text.now)) }
 {
     if from == to {
-        return Count::Entries(0);
+        return Some(0);
     }
-    let mut n = 0;
     let mut start = from;
-    loop {
+    for n in 0..LIST_LIMIT {
         let stop = base_text::fields::find(text, start, to, b',');
         if !is_entry(text, start, stop, kind) {
-            return Count::Bad;
+            return None;
         }
-        if n == LIST_LIMIT {
-            return Count::Bad;
-        }
-        n += 1;
         if stop == to {
-            return Count::Entries(n);
+            return Some(n + 1);
         }
         start = stop + 1;
     }
+    None
 }
 
-// The line that begins at the index: it has this key, a list of such entries, and byte 10 at its end.
-pub fn line(text: &[u8], from: usize, key: &[u8], kind: Entry) -> LineSpan
+// Where the list of the line that begins at the index stands, if the line has this key, a list of such entries, and byte 10 at
+// its end.
+pub fn line(text: &[u8], from: usize, key: &[u8], kind: Entry) -> Option<Span>
     requires { from ≤ length text.now }
     ensures { LineAt (entry_of kind) text.now (SheetReading.line (entry_of kind) key.now
         (drop from text.now)) result }
 {
     let end = base_text::fields::find(text, from, text.len(), b'\n');
     if end == text.len() {
-        return LineSpan::Bad;
+        return None;
     }
     if !base_text::fields::begins(text, from, end, key) {
-        return LineSpan::Bad;
+        return None;
     }
     let start = from + key.len();
-    let counted = count_list(text, start, end, kind);
-    match counted {
-        Count::Bad => LineSpan::Bad,
-        Count::Entries(_) => LineSpan::List(start, end),
-    }
+    count_list(text, start, end, kind)?;
+    Some(Span {
+        from: start,
+        to: end,
+    })
 }

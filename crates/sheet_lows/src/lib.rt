@@ -37,13 +37,11 @@ fn low_positions(positions: &[i32], values: &[i32], lows: &mut [i32]) -> usize
     ensures lows_after { take result lows.new ≡ low_positions positions.now (paired values.now) }
 {
     let mut count = 0;
-    let mut k = 0;
-    while k < positions.len() {
-        lows[count] = positions[k];
+    for (k, x) in positions.iter().enumerate() {
+        lows[count] = *x;
         if is_low(values[2 * k], values[2 * k + 1]) {
             count += 1;
         }
-        k += 1;
     }
     count
 }
@@ -55,10 +53,8 @@ fn put_low_lines(out: &mut [u8], at: usize, lows: &[i32]) -> usize
         result }
 {
     let mut next = at;
-    let mut k = 0;
-    while k < lows.len() {
-        next = put_low_line(out, next, lows[k]);
-        k += 1;
+    for x in lows {
+        next = put_low_line(out, next, *x);
     }
     next
 }

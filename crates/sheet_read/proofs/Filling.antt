@@ -7,7 +7,7 @@ use native.Mathlib.Numerals.{add-one}
 use native.Mathlib.Omega.{arith}
 use lib.IntN.{ℤ}
 use lib.ListN.{length, get_or, take, drop, set, length-drop}
-use lib.Seq.{slice, slice_empty, drop-cons, take-suc, set_at, length-take-le, length_front, take-length}
+use lib.Seq.{drop-cons, take-suc, set_at, length-take-le, take-length}
 use Rattle.base_exact.proofs.Decide.{clash}
 use Rattle.base_text.specs.Bytes.{Text, fields_between}
 use Rattle.base_text.specs.Numeral.{numeral}
@@ -20,21 +20,20 @@ use Rattle.spec_sheet.specs.ReadSheet.{overwritten}
 pub record Filled (zs : List ℤ) (left : Text) (before now : List ℤ) (n : ℕ) : Type 0 where
   pub up_to : n ≤ length zs
   pub room : length zs ≤ length before
-  pub others : entries numeral (fields_between is_separator left) ≡ some (drop n zs)
+  pub others : numerals_of left ≡ some (drop n zs)
   pub written : now ≡ take n zs ++ drop n before
 
 -- the numbers of a text that is not empty
-pub numerals-fields : (t : Text) → 0 < length t → numerals_of t ≡ entries numeral (fields_between is_separator t)
+numerals-fields : (t : Text) → 0 < length t → numerals_of t ≡ entries numeral (fields_between is_separator t)
 unfolding numerals_of
 numerals-fields [] h = absurd (omega arith)
 numerals-fields (c ∷ cs) h = refl
 
-pub numerals-empty : (text : Text) (to : ℕ) → numerals_of (slice to to text) ≡ some []
-unfolding numerals_of
-numerals-empty text to = ap numerals_of (slice_empty to text)
-
-pub filled-start : (t : Text) → 0 < length t → (zs before : List ℤ) → numerals_of t ≡ some zs → length zs ≤ length before → Filled zs t before before 0
-filled-start t h zs before e room = record { up_to = omega arith; room = room; others = sym (numerals-fields t h) ∙ e; written = refl }
+-- good fields are a list
+fields-good : (t : Text) {zs : List ℤ} → entries numeral (fields_between is_separator t) ≡ some zs → numerals_of t ≡ some zs
+unfolding numerals_of entries fields_between numeral
+fields-good [] e = clash cc
+fields-good (c ∷ cs) e = e
 
 pub prepended_some : {A : Type 0} (a : Option A) (o : Option (List A)) (l : List A) → prepended a o ≡ some l
     → (x : A) × (ys : List A) × (a ≡ some x) × (o ≡ some ys) × (l ≡ x ∷ ys)
@@ -65,14 +64,14 @@ pub record Stored (zs : List ℤ) (fs : List Text) (before now : List ℤ) (n : 
   pub others : entries numeral fs ≡ some (drop (n + 1) zs)
   pub written : set now n z ≡ take (n + 1) zs ++ drop (n + 1) before
 
-module _ (zs : List ℤ) (left : Text) (before now : List ℤ) (n : ℕ) (filled : Filled zs left before now n) (f : Text) (fs : List Text)
-    (first : fields_between is_separator left ≡ f ∷ fs) where
+module _ (zs : List ℤ) (left : Text) (before now : List ℤ) (n : ℕ) (filled : Filled zs left before now n) (more : 0 < length left)
+    (f : Text) (fs : List Text) (first : fields_between is_separator left ≡ f ∷ fs) where
   parts : (z : ℤ) × (ws : List ℤ) × (numeral f ≡ some z) × (entries numeral fs ≡ some ws) × (drop n zs ≡ z ∷ ws)
   unfolding entries
-  parts = prepended_some (numeral f) (entries numeral fs) (drop n zs) (ap (entries numeral) (sym first) ∙ filled.others)
+  parts = prepended_some (numeral f) (entries numeral fs) (drop n zs) (ap (entries numeral) (sym first) ∙ sym (numerals-fields left more) ∙ filled.others)
 
-  pub field-good : numeral f ≡ none → ⊥
-  field-good e = let q = parts.2 in clash cc
+  pub field-good : (z : ℤ) × (numeral f ≡ some z)
+  field-good = (parts.0, parts.2)
 
   pub stored : (z : ℤ) → numeral f ≡ some z → Stored zs fs before now n z
   stored z e =
@@ -84,21 +83,22 @@ module _ (zs : List ℤ) (left : Text) (before now : List ℤ) (n : ℕ) (filled
         written = ap (λ (l : List ℤ). set l n z) filled.written ∙ store_next zs before n z parts.1 next filled.room;
       }
 
--- the buffer keeps its length
-pub filled_length : (zs : List ℤ) (left : Text) (before now : List ℤ) (n : ℕ) → Filled zs left before now n → length now ≡ length before
-filled_length zs left before now n f =
-    let short : n ≤ length before = omega (arith, f.up_to, f.room) in
-    ap length f.written ∙ length_front before (take n zs) n (length-take-le n zs f.up_to ∙ sym (length-take-le n before short))
-
--- between two fields
+-- behind a field, with others after it
 pub filled_next : (zs : List ℤ) (left : Text) (before now : List ℤ) (n : ℕ) (z : ℤ) → length zs ≤ length before
     → Stored zs (fields_between is_separator left) before now n z → Filled zs left before (set now n z) (n + 1)
-filled_next zs left before now n z room s = record { up_to = omega (arith, s.below); room = room; others = s.others; written = s.written }
+filled_next zs left before now n z room s =
+    record { up_to = omega (arith, s.below); room = room; others = fields-good left s.others; written = s.written }
 
--- after the last field the whole list is written
-pub filled-last : (zs before now : List ℤ) (n : ℕ) (z : ℤ) → Stored zs [] before now n z → (n + 1 ≡ length zs) × (set now n z ≡ overwritten zs before)
-unfolding entries
-filled-last zs before now n z s =
-    let none_left : drop (n + 1) zs ≡ [] = cc s.others in
-    let all : n + 1 ≡ length zs = omega (arith, s.below, length-drop (n + 1) zs, ap length none_left) in
-    (all, s.written ∙ ap (λ (k : ℕ). take k zs ++ drop k before) all ∙ ap (λ (l : List ℤ). l ++ drop (length zs) before) (take-length zs))
+-- behind the last field
+pub filled-last : (zs before now : List ℤ) (n : ℕ) (z : ℤ) → length zs ≤ length before → Stored zs [] before now n z
+    → Filled zs [] before (set now n z) (n + 1)
+unfolding numerals_of entries
+filled-last zs before now n z room s = record { up_to = omega (arith, s.below); room = room; others = s.others; written = s.written }
+
+-- where no text is left the whole list is written
+pub filled_all : (zs before now : List ℤ) (n : ℕ) → Filled zs [] before now n → (n ≡ length zs) × (now ≡ overwritten zs before)
+unfolding numerals_of
+filled_all zs before now n f =
+    let none_left : drop n zs ≡ [] = cc f.others in
+    let all : n ≡ length zs = omega (arith, f.up_to, length-drop n zs, ap length none_left) in
+    (all, f.written ∙ ap (λ (k : ℕ). take k zs ++ drop k before) all ∙ ap (λ (l : List ℤ). l ++ drop (length zs) before) (take-length zs))

@@ -1,5 +1,5 @@
 -- The machine's form of what reading ends with: the five lengths or a refusal, and how a list comes into its buffer.
-use Rattle.std.specs.Prelude.{Bool, ◌||◌, List, [], ◌∷◌, ◌≡◌, ℕ, ◌≤◌, eqb, ℤ, length}
+use Rattle.std.specs.Prelude.{Bool, ◌||◌, List, [], ◌∷◌, ◌≡◌, ℕ, ◌≤◌, eqb, ℤ, length, Result, Ok, Err}
 use Rattle.std.proofs.Math.Option.{Option, some, none}
 use Rattle.std.proofs.Math.Seq.{slice}
 use Rattle.base_outcome.specs.Codes as codes
@@ -8,8 +8,7 @@ use Rattle.base_text.specs.Bytes.{Text, comma, colon, fields_between, Range}
 use Rattle.base_text.specs.Numeral.{numeral}
 use Rattle.spec_sheet.specs.SheetReading.{entries}
 use Rattle.spec_sheet.specs.ReadSheet.{Lengths, overwritten, ReadEnd}
-use Rattle.sheet_read.specs.declared.Lists.{Lists as Answer}
-use Rattle.sheet_read.specs.declared.Lists.TheVariants as answer-cases
+use Rattle.sheet_read.specs.declared.Lengths as machine
 
 -- ---- numbers
 
@@ -45,12 +44,13 @@ pub record ListPut (text : Text) (from to : ℕ) (before now : List ℤ) (n : �
 -- ---- the sheet
 
 -- 10, place the line: "the sheet's text is malformed" (§ 3).
-unfoldable pub reply : Answer → Outcome Lengths
-reply (answer-cases.Read b d o c p) = answer (record { breaks = b; degrees = d; orders = o; coefs = c; positions = p })
-reply (answer-cases.Refused place) = refusal codes.sheet_line place
+unfoldable pub reply : Result machine.Lengths ℕ → Outcome Lengths
+reply (Ok n) =
+    answer (record { breaks = n.breaks; degrees = n.degrees; orders = n.orders; coefs = n.coefs; positions = n.positions })
+reply (Err place) = refusal codes.sheet_line place
 
 -- The answer and the buffers are those.
-pub record EndsAs (e : ReadEnd) (r : Answer) (breaks degrees orders coefs positions : List ℤ) : Type 0 where
+pub record EndsAs (e : ReadEnd) (r : Result machine.Lengths ℕ) (breaks degrees orders coefs positions : List ℤ) : Type 0 where
   pub replies : reply r ≡ e.answers
   pub breaks_are : breaks ≡ e.breaks
   pub degrees_are : degrees ≡ e.degrees

@@ -10,54 +10,53 @@ ghost use Rattle.sheet_read.specs.Machine.{is_separator, ListFits, ListPut, Ends
 ghost use Rattle.spec_sheet.specs.ReadSheet.{read_end};
 
 use base_outcome::limits;
-use base_text::numeral::Field;
-use sheet_lines::{Entry, LineSpan};
+use sheet_lines::{Entry, Span};
 
-// Where the five lists begin and end, or the place of code 10.
+// Where the five lists stand.
 #[derive(Clone, Copy)]
-pub enum ListSpans {
-    Lists(usize, usize, usize, usize, usize, usize, usize, usize, usize, usize),
-    Refused(u32),
+struct FiveSpans {
+    breaks: Span,
+    degrees: Span,
+    orders: Span,
+    coefs: Span,
+    positions: Span,
 }
 
-// Looks through the whole text.
-fn scan(text: &[u8]) -> ListSpans
+// Looks through the whole text: where its lists stand, or the place of code 10.
+fn scan(text: &[u8]) -> Result<FiveSpans, u32>
     ensures { Scanned text.now (SheetReading.read text.now) result }
 {
     if text.len() > limits::SHEET_LIMIT {
-        return ListSpans::Refused(0);
+        return Err(0);
     }
-    let LineSpan::List(b, b_end) = sheet_lines::line(text, 0, b"breaks=", Entry::Numeral) else {
-        return ListSpans::Refused(1);
-    };
-    let LineSpan::List(d, d_end) = sheet_lines::line(text, b_end + 1, b"degrees=", Entry::Numeral)
-    else {
-        return ListSpans::Refused(2);
-    };
-    let LineSpan::List(o, o_end) = sheet_lines::line(text, d_end + 1, b"orders=", Entry::Numeral)
-    else {
-        return ListSpans::Refused(3);
-    };
-    let LineSpan::List(c, c_end) = sheet_lines::line(text, o_end + 1, b"coefs=", Entry::Pair) else {
-        return ListSpans::Refused(4);
-    };
-    let LineSpan::List(p, p_end) = sheet_lines::line(text, c_end + 1, b"at=", Entry::Numeral) else {
-        return ListSpans::Refused(5);
-    };
-    if p_end + 1 != text.len() {
-        return ListSpans::Refused(6);
+    let breaks = sheet_lines::line(text, 0, b"breaks=", Entry::Numeral).ok_or(1u32)?;
+    let degrees = sheet_lines::line(text, breaks.to + 1, b"degrees=", Entry::Numeral).ok_or(2u32)?;
+    let orders = sheet_lines::line(text, degrees.to + 1, b"orders=", Entry::Numeral).ok_or(3u32)?;
+    let coefs = sheet_lines::line(text, orders.to + 1, b"coefs=", Entry::Pair).ok_or(4u32)?;
+    let positions = sheet_lines::line(text, coefs.to + 1, b"at=", Entry::Numeral).ok_or(5u32)?;
+    if positions.to + 1 != text.len() {
+        return Err(6);
     }
-    ListSpans::Lists(b, b_end, d, d_end, o, o_end, c, c_end, p, p_end)
+    Ok(FiveSpans {
+        breaks,
+        degrees,
+        orders,
+        coefs,
+        positions,
+    })
 }
 
 // The most numbers of the list of coefficients, two a pair.
 pub const COEFFICIENT_NUMBERS: usize = 2 * sheet_lines::LIST_LIMIT;
 
-// How many numbers the five lists have, two for each pair of coefficients, or the place of code 10.
+// How many numbers the five lists have, two for each pair of coefficients.
 #[derive(Clone, Copy)]
-pub enum Lists {
-    Read(usize, usize, usize, usize, usize),
-    Refused(u32),
+pub struct Lengths {
+    pub breaks: usize,
+    pub degrees: usize,
+    pub orders: usize,
+    pub coefs: usize,
+    pub positions: usize,
 }
 
 // The first index from the one up to the other with a comma or a colon, or the end.
@@ -70,37 +69,25 @@ fn separator(text: &[u8], from: usize, to: usize) -> usize
 }
 
 // Writes the numbers of a good list to the front of the buffer, those of a pair side by side, and answers how many they are.
-// What stands between the commas and colons of such a list are numbers, so the bad case is never met.
-fn fill(text: &[u8], from: usize, to: usize, list: &mut [i32]) -> usize
-    requires { ListFits text.now from to (length list.old) }
-    ensures { ListPut text.now from to list.old list.new result }
+// What stands between the commas and colons of such a list are numbers.
+fn fill(text: &[u8], span: Span, list: &mut [i32]) -> usize
+    requires { ListFits text.now span.from span.to (length list.old) }
+    ensures { ListPut text.now span.from span.to list.old list.new result }
 {
-    if from == to {
-        return 0;
-    }
     let mut n = 0;
-    let mut start = from;
-    loop {
-        let stop = separator(text, start, to);
-        let field = base_text::numeral::numeral(text, start, stop);
-        match field {
-            Field::Bad => {
-                return n;
-            }
-            Field::Numeral(z) => {
-                list[n] = z;
-                n += 1;
-            }
-        }
-        if stop == to {
-            return n;
-        }
+    let mut start = span.from;
+    // A `while`: a turn goes on behind the separator that it finds.
+    while start < span.to {
+        let stop = separator(text, start, span.to);
+        list[n] = base_text::numeral::numeral(text, start, stop).unwrap();
+        n += 1;
         start = stop + 1;
     }
+    n
 }
 
 // The five lists of a sheet's text, each written to the front of its buffer, the coefficients as the numbers of their pairs
-// side by side. The text may be any bytes: after code 10 no buffer is changed.
+// side by side; or the place of code 10. The text may be any bytes: after code 10 no buffer is changed.
 pub fn read(
     text: &[u8],
     breaks: &mut [i32; sheet_lines::LIST_LIMIT],
@@ -108,20 +95,17 @@ pub fn read(
     orders: &mut [i32; sheet_lines::LIST_LIMIT],
     coefs: &mut [i32; COEFFICIENT_NUMBERS],
     positions: &mut [i32; sheet_lines::LIST_LIMIT],
-) -> Lists
+) -> Result<Lengths, u32>
     ensures { EndsAs (read_end text.now breaks.old degrees.old orders.old
         coefs.old positions.old)
         result breaks.new degrees.new orders.new coefs.new positions.new }
 {
-    let scanned = scan(text);
-    match scanned {
-        ListSpans::Refused(place) => Lists::Refused(place),
-        ListSpans::Lists(b, b_end, d, d_end, o, o_end, c, c_end, p, p_end) => Lists::Read(
-            fill(text, b, b_end, breaks),
-            fill(text, d, d_end, degrees),
-            fill(text, o, o_end, orders),
-            fill(text, c, c_end, coefs),
-            fill(text, p, p_end, positions),
-        ),
-    }
+    let spans = scan(text)?;
+    Ok(Lengths {
+        breaks: fill(text, spans.breaks, breaks),
+        degrees: fill(text, spans.degrees, degrees),
+        orders: fill(text, spans.orders, orders),
+        coefs: fill(text, spans.coefs, coefs),
+        positions: fill(text, spans.positions, positions),
+    })
 }

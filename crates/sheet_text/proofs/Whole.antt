@@ -7,7 +7,7 @@ use native.Mathlib.Omega.{arith}
 use lib.IntN.{ℤ}
 use lib.ListN.{length, take, drop}
 use lib.Seq.{take_at}
-use Rattle.base_outcome.specs.Outcome.{answer}
+use Rattle.base_outcome.specs.Outcome.{answer, refusal}
 use Rattle.spec_spline.specs.Space.{row_count}
 use Rattle.spec_spline.specs.Table.{Table, table_cells, numerators, denominators}
 use Rattle.spec_spline.specs.Build.{space_weights, last_part, numerators_after, denominators_after}
@@ -20,10 +20,7 @@ use Rattle.spec_spline.proofs.Pairs.{side_by_side_length}
 use Rattle.theorems_values.specs.ValueLimits.{legal_result}
 use Rattle.theorems_values.proofs.LegalCall.{answered_calls_are_legal, legal_calls_answer, values_length_lem}
 use Rattle.build_cells.proofs.Buffer.{numerators-again, denominators-again, kept-numerators, kept-denominators}
-use Rattle.base_outcome.specs.Machine.{reply}
 use Rattle.base_outcome.proofs.Reply.{Counted, count_inverts, refused_inverts}
-use Rattle.base_outcome.specs.declared.Answer.{Answer}
-use Rattle.base_outcome.specs.declared.Answer.TheVariants.{Count, Refused}
 use Rattle.spec_sheet.specs.Printout.{answer_text}
 use Rattle.base_print.specs.Refusal.{refusal_line}
 use Rattle.spec_sheet.specs.Pairs.{paired}
@@ -60,15 +57,15 @@ module _ (l : Arguments) (r : CurveResult) (e : called l ≡ answer r) where
 
 -- ---- the call, as the machine answers it
 
-module _ (l : Arguments) (m : Answer) (e : reply m ≡ returned (called l)) where
+module _ (l : Arguments) where
   -- a refusal is printed as it is
-  pub refused_prints : (code place : ℕ) → m ≡ Refused code place → refusal_line code place ≡ called_text l
+  pub refused_prints : {code place : ℕ} → refusal code place ≡ returned (called l) → refusal_line code place ≡ called_text l
   unfolding outcome_text
-  refused_prints code place r = ap (outcome_text l.positions) (sym (refused_inverts (λ q. length q.values) (called l) (ap reply (sym r) ∙ e)))
+  refused_prints e = ap (outcome_text l.positions) (sym (refused_inverts (λ q. length q.values) (called l) e))
 
-  module _ (n : ℕ) (r : m ≡ Count n) where
+  module _ (n : ℕ) (e : answer n ≡ returned (called l)) where
     counted : Counted (λ q. length q.values) (called l) n
-    counted = count_inverts (λ q. length q.values) (called l) (ap reply (sym r) ∙ e)
+    counted = count_inverts (λ q. length q.values) (called l) e
 
     told : Told l counted.result
     told = answered_told l counted.result counted.is

@@ -73,21 +73,18 @@ fn run(
         &mut values,
     );
     match answer {
-        base_outcome::Answer::Refused(code, place) => base_print::refusal(code, place, out),
-        base_outcome::Answer::Count(n) => {
-            let cells = 2 * n;
-            put_answer(
-                breaks,
-                degrees,
-                orders,
-                coefs.len() / 2,
-                &mut num,
-                &mut den,
-                positions,
-                &values[..cells],
-                out,
-            )
-        }
+        Ok(n) => put_answer(
+            breaks,
+            degrees,
+            orders,
+            coefs.len() / 2,
+            &mut num,
+            &mut den,
+            positions,
+            &values[..2 * n],
+            out,
+        ),
+        Err(refusal) => base_print::refusal(refusal.code, refusal.place, out),
     }
 }
 
@@ -101,7 +98,7 @@ pub fn sheet(input: &[u8], out: &mut [u8]) -> usize
     let mut orders = [0; sheet_lines::LIST_LIMIT];
     let mut coefs = [0; sheet_read::COEFFICIENT_NUMBERS];
     let mut positions = [0; sheet_lines::LIST_LIMIT];
-    let lists = sheet_read::read(
+    let read = sheet_read::read(
         input,
         &mut breaks,
         &mut degrees,
@@ -109,15 +106,15 @@ pub fn sheet(input: &[u8], out: &mut [u8]) -> usize
         &mut coefs,
         &mut positions,
     );
-    match lists {
-        sheet_read::Lists::Refused(place) => base_print::refusal(codes::SHEET_LINE, place, out),
-        sheet_read::Lists::Read(b, d, o, c, p) => run(
-            &breaks[..b],
-            &degrees[..d],
-            &orders[..o],
-            &coefs[..c],
-            &positions[..p],
+    match read {
+        Ok(n) => run(
+            &breaks[..n.breaks],
+            &degrees[..n.degrees],
+            &orders[..n.orders],
+            &coefs[..n.coefs],
+            &positions[..n.positions],
             out,
         ),
+        Err(place) => base_print::refusal(codes::SHEET_LINE, place, out),
     }
 }

@@ -39,12 +39,10 @@ pub fn put_values(out: &mut [u8], at: usize, positions: &[i32], values: &[i32]) 
         (value_lines positions.now (paired values.now)) out.old out.new result }
 {
     let mut next = at;
-    let mut k = 0;
-    while k < positions.len() {
+    for (k, x) in positions.iter().enumerate() {
         let early = values[2 * k];
         let late = values[2 * k + 1];
-        next = put_value(out, next, positions[k], early, late);
-        k += 1;
+        next = put_value(out, next, *x, early, late);
     }
     next
 }

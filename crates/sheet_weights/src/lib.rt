@@ -75,10 +75,8 @@ pub fn put_weights(
 {
     let cells = build_cells::ROW_CELLS * n;
     let mut next = at;
-    let mut k = 0;
-    while k < cells {
+    for k in 0..cells {
         next = put_cell(out, next, row, column, k, num[k], den[k]);
-        k += 1;
     }
     next
 }

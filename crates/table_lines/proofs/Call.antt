@@ -9,8 +9,6 @@ use lib.ListN.{length}
 use lib.Seq.{slice, take_all}
 use Rattle.base_exact.proofs.Decide.{and-true, cond_true, cond_false}
 use Rattle.base_outcome.specs.Outcome.{Outcome, answer, refusal, refuse, capped, with_answer}
-use Rattle.base_outcome.specs.Machine.{reply}
-use Rattle.base_outcome.specs.declared.Answer.TheVariants.{Count, Refused}
 use Rattle.base_text.specs.Bytes.{Text}
 use Rattle.spec_spline.specs.Reading.{Wood, earlywood, latewood, wood_index}
 use Rattle.spec_tucson.specs.Line.{name_columns, is_name}
@@ -28,15 +26,15 @@ module _ (r : Rows) (out : Text) where
   abbrev text : Text
   text = rows_text r (length r.widths)
 
-  pub rows_short : leb (length text) (length out) ≡ false → RowsEnd r out out (reply (Refused 1 0))
-  unfolding rows_outcome reply text_after capped
+  pub rows_short : leb (length text) (length out) ≡ false → RowsEnd r out out (refusal 1 0)
+  unfolding rows_outcome text_after capped
   rows_short e =
       let o : rows_outcome r (length out) ≡ refusal 1 0 = cond_false (answer text) (refuse 1 0) e in
       record { answered = sym (ap (with_answer length) o); text = sym (ap (λ (p : Outcome Text). text_after p out) o) }
 
   pub rows_written : {after : Text} {count : ℕ} → leb (length text) (length out) ≡ true → Wrote 0 text out after count
-      → RowsEnd r out after (reply (Count count))
-  unfolding rows_outcome reply text_after
+      → RowsEnd r out after (answer count)
+  unfolding rows_outcome text_after
   rows_written e w =
       let o : rows_outcome r (length out) ≡ answer text = cond_true (answer text) (refuse 1 0) e in
       record {
@@ -82,8 +80,8 @@ module _ (wood : Wood) (s : IndexedSeries) (out : Text) where
   abbrev end : RingLinesEnd
   end = ring_lines_end wood s out
 
-  pub ends_refused : {code place : ℕ} → outcome ≡ refusal code place → (reply (Refused code place) ≡ end.answers) × (out ≡ end.text)
-  unfolding reply text_after
+  pub ends_refused : {code place : ℕ} → outcome ≡ refusal code place → ((refusal code place) ≡ end.answers) × (out ≡ end.text)
+  unfolding text_after
   ends_refused e = (sym (ap (with_answer length) e), sym (ap (λ (o : Outcome Text). text_after o out) e))
 
   pub ends-rows : {after : Text} {answers : Outcome ℕ} → rows_outcome (rows_of wood s) (length out) ≡ outcome

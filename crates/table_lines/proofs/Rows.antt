@@ -1,15 +1,19 @@
--- Laws of the lines of a series: one line more, and how many bytes they have.
+-- Laws of the lines of a series: one line more, how many bytes they have, and the numbers of a line.
 use mathlib.Core.Path.{◌≡◌, refl, sym, ap, ap₂, ◌∙◌}
 use mathlib.Core.List.{List, [], ◌∷◌, ◌++◌, append-nil, append_assoc}
-use Prim.Native.Nat.{ℕ, zero, suc, ◌+◌, ◌-◌, ◌*◌, ◌<◌, ◌≤◌}
+use Prim.Native.Nat.{ℕ, zero, suc, ◌+◌, ◌-◌, ◌*◌, ◌≤◌}
 use native.Mathlib.Numerals.{add-one}
 use native.Mathlib.Omega.{arith}
-use lib.ListN.{length, length-append}
+use lib.IntN.{ℤ, pos, ◌+ℤ◌}
+use lib.ListN.{length, get_or, length-append}
+use mir.Syntax.{w32, w64}
+use mir.Val.{SFits, of_z, to_z}
+use Rattle.base_exact.proofs.Word.{to_z-of_z}
 use Rattle.base_exact.specs.Tabulate.{tab}
 use Rattle.base_exact.proofs.Tabulate.{tab_snoc}
 use Rattle.base_text.specs.Bytes.{Text}
 use Rattle.spec_spline.specs.Reading.{Wood, wood_index}
-use Rattle.spec_table.specs.RingLines.{name_text, Ring, ring_line, lines_of_rings, IndexedSeries, ring_at, ring_lines}
+use Rattle.spec_table.specs.RingLines.{name_text, numbers_text, Ring, ring_line, lines_of_rings, IndexedSeries, ring_at, ring_lines}
 use Rattle.table_lines.specs.Machine.{Rows, rows, row_numbers, row_text, rows_text}
 
 pub rows_none : (r : Rows) → [] ≡ rows_text r 0
@@ -31,6 +35,19 @@ rows_grow r k (suc n) = omega (arith, rows_grow r k n, rows_length r (n + k), ap
 
 pub rows-within : (r : Rows) (k n : ℕ) → k ≤ n → length (rows_text r k) ≤ length (rows_text r n)
 rows-within r k n h = omega (arith, rows_grow r k (n - k), ap (λ (m : ℕ). length (rows_text r m)) (let e : n - k + k ≡ n = omega arith in e))
+
+-- the numbers of a line, read back from their words
+pub numbers_are : (r : Rows) (j : ℕ) (year : ℤ) → let width = get_or r.widths j (pos 0) in
+    let value = get_or r.values (2 * j + r.cell) (pos 0) in
+    let index = get_or r.indices j (pos 0) in
+    SFits w32 r.first → SFits w64 year → SFits w32 width → SFits w32 value → SFits w64 index → year ≡ to_z w32 (of_z w32 r.first) +ℤ pos j
+    → numbers_text (to_z w64 (of_z w64 year)) (to_z w32 (of_z w32 width)) (to_z w32 (of_z w32 value)) (to_z w64 (of_z w64 index))
+    ≡ row_numbers r j
+numbers_are r j year f g w v i e =
+    let width = get_or r.widths j (pos 0) in
+    let value = get_or r.values (2 * j + r.cell) (pos 0) in
+    let index = get_or r.indices j (pos 0) in
+    simp to_z-of_z (ap (λ (z : ℤ). numbers_text z width value index) (simp to_z-of_z at e))
 
 -- ---- the lines of the definition
 

@@ -34,16 +34,14 @@ fn rows_fit(
         indices.now) (length widths.now))) room }
 {
     let mut left = room;
-    let mut j = 0;
-    while j < widths.len() {
+    for (j, width) in widths.iter().enumerate() {
         let year = year_at(first, j);
-        let numbers = table_line::numbers_size(year, widths[j], values[2 * j + cell], indices[j]);
+        let numbers = table_line::numbers_size(year, *width, values[2 * j + cell], indices[j]);
         let size = label.len() + numbers;
         if size > left {
             return false;
         }
         left -= size;
-        j += 1;
     }
     true
 }
@@ -53,12 +51,9 @@ fn put_label(out: &mut [u8], at: usize, label: &[u8]) -> usize
     requires { at + length label.now ≤ length out.old }
     ensures { Wrote at label.now out.old out.new result }
 {
-    let mut i = 0;
-    while i < label.len() {
-        out[at + i] = label[i];
-        i += 1;
-    }
-    at + i
+    let end = at + label.len();
+    out[at..end].copy_from_slice(label);
+    end
 }
 
 // One line.
@@ -93,19 +88,17 @@ fn put_rows(
         indices.now) (length widths.now)) out.old out.new result }
 {
     let mut next = 0;
-    let mut j = 0;
-    while j < widths.len() {
+    for (j, width) in widths.iter().enumerate() {
         let year = year_at(first, j);
         next = put_row(
             out,
             next,
             label,
             year,
-            widths[j],
+            *width,
             values[2 * j + cell],
             indices[j],
         );
-        j += 1;
     }
     next
 }
@@ -119,16 +112,19 @@ fn write_rows(
     values: &[i32],
     indices: &[i64],
     out: &mut [u8],
-) -> base_outcome::Answer
+) -> Result<usize, base_outcome::Refusal>
     requires { RowsAsk (rows label.now first cell widths.now values.now indices.now) }
     ensures { RowsEnd (rows label.now first cell widths.now values.now indices.now)
         out.old out.new (reply result) }
 {
     if !rows_fit(label, first, cell, widths, values, indices, out.len()) {
-        return base_outcome::Answer::Refused(base_outcome::codes::SHORT_BUFFER, 0);
+        return Err(base_outcome::Refusal {
+            code: base_outcome::codes::SHORT_BUFFER,
+            place: 0,
+        });
     }
     let count = put_rows(out, label, first, cell, widths, values, indices);
-    base_outcome::Answer::Count(count)
+    Ok(count)
 }
 
 // Whether the name has eight bytes, and there are an index and two values for each width.
@@ -164,7 +160,7 @@ pub fn ring_lines(
     values: &[i32],
     indices: &[i64],
     out: &mut [u8],
-) -> base_outcome::Answer
+) -> Result<usize, base_outcome::Refusal>
     ensures { let e = ring_lines_end (wood_of wood) (record {
       name = name.entry.now;
       first_year = first;
@@ -175,10 +171,16 @@ pub fn ring_lines(
         (reply result ≡ e.answers) × (out.new ≡ e.text) }
 {
     if !lists_fit(name, widths, values, indices) {
-        return base_outcome::Answer::Refused(base_outcome::codes::LENGTHS, 0);
+        return Err(base_outcome::Refusal {
+            code: base_outcome::codes::LENGTHS,
+            place: 0,
+        });
     }
     if !tucson_lines::is_name(name, 0) {
-        return base_outcome::Answer::Refused(base_outcome::codes::TUCSON_LINE, 0);
+        return Err(base_outcome::Refusal {
+            code: base_outcome::codes::TUCSON_LINE,
+            place: 0,
+        });
     }
     let cell = wood_cell(wood);
     let mut label = [0; table_name::NAME_LIMIT];

@@ -1,8 +1,8 @@
--- Laws of a name in the table, byte after byte: leading blanks, the bytes that ask for quotation marks, and quotation marks doubled.
+-- Laws of a name in the table: quotation marks doubled byte after byte, the buffer's front, and the name as it is or in quotation marks.
 use mathlib.Core.Path.{◌≡◌, refl, sym, ap, ◌∙◌}
-use mathlib.Core.Bool.{Bool, true, false, cond, ◌||◌}
+use mathlib.Core.Bool.{Bool, true, false, cond}
 use mathlib.Core.List.{List, [], ◌∷◌, ◌++◌, append_assoc, append-nil}
-use Prim.Native.Nat.{ℕ, zero, suc, ◌+◌, ◌*◌, ◌<◌, ◌≤◌}
+use Prim.Native.Nat.{ℕ, ◌+◌, ◌<◌, ◌≤◌}
 use native.Mathlib.Numerals.{add-one}
 use native.Mathlib.Omega.{arith}
 use borrow.Author.Tests.{eq-eqb, ne_eqb}
@@ -10,49 +10,11 @@ use lib.Dec.{eqb}
 use lib.ListN.{length, get_or, take, drop}
 use lib.Seq.{take-suc, take_at}
 use Rattle.base_exact.proofs.Decide.{cond_true, cond_false}
-use Rattle.base_text.specs.Bytes.{Text, comma}
+use Rattle.base_text.specs.Bytes.{Text}
 use Rattle.base_print.specs.Buffer.{Prints}
-use Rattle.spec_tucson.specs.Columns.{blank}
-use Rattle.spec_table.specs.RingLines.{quotation_mark, without_leading, holds_quoted, asks_quotes, doubled, quoted_name}
-use Rattle.tucson_series.proofs.Tests.{drop-step, drop_end}
+use Rattle.spec_table.specs.RingLines.{quotation_mark, holds_quoted, doubled, quoted_name}
 use Rattle.tucson_putting.proofs.Wrote.{written-whole}
 use Rattle.table_name.specs.Machine.{doubled_byte}
-
-module _ (t : Text) (i : ℕ) (h : i < length t) where
-  -- ---- leading blanks
-
-  leading_step : without_leading (drop i t) ≡ cond (eqb (get_or t i 0) blank) (without_leading (drop (i + 1) t)) (get_or t i 0 ∷ drop (i + 1) t)
-  unfolding without_leading
-  leading_step = ap without_leading (drop-step t i 0 h)
-
-  pub leading-blank : get_or t i 0 ≡ blank → without_leading (drop i t) ≡ without_leading (drop (i + 1) t)
-  leading-blank a = leading_step ∙ rw (eq-eqb (get_or t i 0) blank a)
-
-  pub leading_other : (get_or t i 0 ≡ blank → ⊥) → without_leading (drop i t) ≡ drop i t
-  leading_other a = leading_step ∙ rw (ne_eqb (get_or t i 0) blank a) (sym (drop-step t i 0 h))
-
-  -- ---- commas and quotation marks
-
-  quoted-step : holds_quoted (drop i t) ≡ (asks_quotes (get_or t i 0) || holds_quoted (drop (i + 1) t))
-  unfolding holds_quoted
-  quoted-step = ap holds_quoted (drop-step t i 0 h)
-
-  pub quoted-comma : get_or t i 0 ≡ comma → holds_quoted (drop i t) ≡ true
-  quoted-comma a = quoted-step ∙ rw (eq-eqb (get_or t i 0) comma a)
-
-  pub quoted-mark : (get_or t i 0 ≡ comma → ⊥) → get_or t i 0 ≡ quotation_mark → holds_quoted (drop i t) ≡ true
-  quoted-mark a b = quoted-step ∙ rw (ne_eqb (get_or t i 0) comma a, eq-eqb (get_or t i 0) quotation_mark b)
-
-  pub quoted-next : (get_or t i 0 ≡ comma → ⊥) → (get_or t i 0 ≡ quotation_mark → ⊥) → holds_quoted (drop i t) ≡ holds_quoted (drop (i + 1) t)
-  quoted-next a b = quoted-step ∙ rw (ne_eqb (get_or t i 0) comma a, ne_eqb (get_or t i 0) quotation_mark b)
-
-pub leading_end : (t : Text) (i : ℕ) → length t ≤ i → i ≤ length t → without_leading (drop i t) ≡ drop i t
-unfolding without_leading
-leading_end t i h k = ap without_leading (drop_end t i h k) ∙ sym (drop_end t i h k)
-
-pub quoted_end : (t : Text) (i : ℕ) → length t ≤ i → i ≤ length t → holds_quoted (drop i t) ≡ false
-unfolding holds_quoted
-quoted_end t i h k = ap holds_quoted (drop_end t i h k)
 
 -- ---- quotation marks doubled
 

@@ -14,31 +14,16 @@ pub const NAME_LIMIT: usize = 18;
 fn name_start(name: &[u8]) -> usize
     ensures { StartTold name.now result }
 {
-    let mut i = 0;
-    while i < name.len() {
-        if name[i] != b' ' {
-            return i;
-        }
-        i += 1;
-    }
-    i
+    name.iter()
+        .position(|byte| *byte != b' ')
+        .unwrap_or(name.len())
 }
 
 // Whether there is a comma or a quotation mark.
 fn holds_quoted(bytes: &[u8]) -> bool
     ensures { result ≡ holds_quoted bytes.now }
 {
-    let mut i = 0;
-    while i < bytes.len() {
-        if bytes[i] == b',' {
-            return true;
-        }
-        if bytes[i] == b'"' {
-            return true;
-        }
-        i += 1;
-    }
-    false
+    bytes.iter().any(|b| *b == b',' || *b == b'"')
 }
 
 // One byte, a quotation mark twice.
@@ -59,10 +44,8 @@ fn put_doubled(out: &mut [u8], at: usize, bytes: &[u8]) -> usize
     ensures { Puts (2 * length bytes.now) at (doubled bytes.now) out.old out.new result }
 {
     let mut next = at;
-    let mut i = 0;
-    while i < bytes.len() {
-        next = put_doubled_byte(out, next, bytes[i]);
-        i += 1;
+    for byte in bytes {
+        next = put_doubled_byte(out, next, *byte);
     }
     next
 }

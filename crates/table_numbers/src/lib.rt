@@ -106,9 +106,7 @@ fn put_last_digits(out: &mut [u8], at: usize, n: u64, count: usize) -> usize
     ensures { Wrote at (last_digits count n) out.old out.new result }
 {
     let mut rest = n;
-    let mut i = count;
-    while i > 0 {
-        i -= 1;
+    for i in (0..count).rev() {
         out[at + i] = 48 + (rest % 10) as u8;
         rest = rest / 10;
     }

@@ -4,13 +4,12 @@ use mathlib.Core.Bool.{Bool, true, false, cond, ◌&&◌, ◌||◌, not, or_asso
 use mathlib.Core.List.{[], ◌∷◌, ◌++◌, append-nil}
 use Prim.Native.Nat.{ℕ, zero, suc, ◌+◌, ◌-◌, ◌<◌, ◌≤◌}
 use native.Mathlib.Omega.{arith}
-use borrow.Author.Tests.{eq-eqb, ne_eqb, eqb-true, eqb-false, ltb-true, ltb-false, le-leb, lt-leb, leb-true, leb-false}
+use borrow.Author.Tests.{eq-eqb, ne_eqb, eqb-true, eqb-false, ltb-true, ltb-false, leb-true, leb-false}
 use lib.Dec.{eqb, leb, ltb}
 use lib.ListN.{length, get_or, take, drop, replicate, drop_of_length-le, get_or-eq_default}
 use lib.Seq.{slice, slice_empty, length-take-le, take_all, take-take, take_at, drop_at, get_or-take}
 use Rattle.base_text.specs.Bytes.{Text, begins_with, digit_zero}
 use Rattle.base_text.specs.Numeral.{is_digit}
-use Rattle.base_text.proofs.Slice.{slice-step}
 use Rattle.spec_tucson.specs.Columns.{blank}
 use Rattle.spec_tucson.specs.Line.{name_columns}
 use Rattle.spec_tucson.specs.FileText.{tab}
@@ -69,25 +68,6 @@ words-shown n [] = ap any_word (expanded-none n)
 words-shown n (c ∷ t) =
     ap any_word (expanded-step n c t) ∙ words_append (shown_byte n c) (expanded (n + length (shown_byte n c)) t)
     ∙ ap₂ ◌||◌ (byte_word n c) (words-shown (n + length (shown_byte n c)) t)
-
--- a byte at a time
-module _ (text : Text) (i to : ℕ) (before : i < to) (within : to ≤ length text) where
-  word-step : any_word (slice i to text) ≡ ((is_letter (get_or text i 0) || is_high (get_or text i 0)) || any_word (slice (i + 1) to text))
-  unfolding any_word
-  word-step = ap any_word (slice-step i to text 0 before within)
-
-  pub word_letter : is_letter (get_or text i 0) ≡ true → any_word (slice i to text) ≡ true
-  word_letter e = word-step ∙ ap (λ (b : Bool). (b || is_high (get_or text i 0)) || any_word (slice (i + 1) to text)) e
-
-  pub word-high : is_letter (get_or text i 0) ≡ false → 128 ≤ get_or text i 0 → any_word (slice i to text) ≡ true
-  word-high e h = word-step ∙ ap₂ (λ (a b : Bool). (a || b) || any_word (slice (i + 1) to text)) e (le-leb 128 (get_or text i 0) h)
-
-  pub word_next : is_letter (get_or text i 0) ≡ false → get_or text i 0 < 128 → any_word (slice i to text) ≡ any_word (slice (i + 1) to text)
-  word_next e h = word-step ∙ ap₂ (λ (a b : Bool). (a || b) || any_word (slice (i + 1) to text)) e (lt-leb 128 (get_or text i 0) h)
-
-pub word_end : (text : Text) (to : ℕ) → any_word (slice to to text) ≡ false
-unfolding any_word
-word_end text to = ap any_word (slice_empty to text)
 
 -- ---- the same bytes
 same-begins : (s t : Text) → length s ≡ length t → same_text s t ≡ begins_with s t

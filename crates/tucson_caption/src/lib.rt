@@ -33,17 +33,7 @@ fn any_word(text: &[u8], from: usize, to: usize) -> bool
     requires { Range text.now from to }
     ensures { result ≡ any_word (slice from to text.now) }
 {
-    let mut i = from;
-    while i < to {
-        if tucson_site::is_letter(text[i]) {
-            return true;
-        }
-        if text[i] >= tucson_columns::HIGH {
-            return true;
-        }
-        i += 1;
-    }
-    false
+    text[from..to].iter().any(|x| tucson_site::is_letter(*x) || *x >= tucson_columns::HIGH)
 }
 
 // Whether there is one in column 9 or later of what is shown of a line; the array is used on the way.

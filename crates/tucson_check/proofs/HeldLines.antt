@@ -9,35 +9,32 @@ use lib.ListN.{length, take}
 use lib.Seq.{length-take-le}
 use Rattle.base_exact.proofs.Decide.{clash}
 use Rattle.base_outcome.specs.Outcome.{Outcome, answer, refusal, refuse, capped, with_answer}
-use Rattle.base_outcome.specs.declared.Legality.{Legality}
-use Rattle.base_outcome.specs.declared.Legality.TheVariants as legalities
 use Rattle.base_text.specs.Bytes.{Text}
 use Rattle.spec_tucson.specs.Line.{name_columns}
-use Rattle.spec_tucson.specs.TextReading.{Begun}
 use Rattle.spec_tucson.specs.StrictLine.{any_high, bytes_masked, characters_masked, is_strict, if_strict, only_one, masked, or_refused, strict_bytes, shown_fields, strict_line}
 use Rattle.spec_tucson.specs.StrictLine.{Kept, name_bytes, name_of}
 use Rattle.spec_tucson.specs.Shown.{has_tab}
 use Rattle.spec_tucson.specs.KeptLines.{same_text, kept_then}
 use Rattle.spec_tucson.specs.CleanSeries.{continues}
-use Rattle.tucson_judge.specs.Judging.{verdict, Behind}
+use Rattle.tucson_judge.specs.Judging.{Verdict, verdict, Behind}
 use Rattle.tucson_judge.specs.declared.Judged.{Judged}
 use Rattle.tucson_check.specs.Holding.{judging, NoneHeld, LineHeld, HoldsBy, Holds, same_name_bytes, HeldNow, HeldBytes, StrictFits}
 use Rattle.tucson_shown.specs.Machine.{StrictTold}
-use Rattle.tucson_shown.specs.declared.Strict.{Strict}
-use Rattle.tucson_shown.specs.declared.Strict.TheVariants as strict-cases
+use Rattle.std.specs.Prelude.{Result, Ok, Err}
+use Rattle.tucson_shown.specs.declared.StrictLine.{StrictLine}
 use Rattle.tucson_check.specs.declared.Held.{Held}
 
 -- ---- the verdict on the lines that are kept
-pub judging-same : (f g : List Kept → Legality) → ((ks : List Kept) → f ks ≡ g ks) → (o : Outcome (List Kept)) → judging f o ≡ judging g o
+pub judging-same : (f g : List Kept → Verdict) → ((ks : List Kept) → f ks ≡ g ks) → (o : Outcome (List Kept)) → judging f o ≡ judging g o
 judging-same f g h (answer ks) = h ks
 judging-same f g h (refusal code place) = refl
 
-pub judging_with : (f : List Kept → Legality) (k : Kept) (o : Outcome (List Kept)) → judging f (with_answer (λ ks. k ∷ ks) o) ≡ judging (λ ks. f (k ∷ ks)) o
+pub judging_with : (f : List Kept → Verdict) (k : Kept) (o : Outcome (List Kept)) → judging f (with_answer (λ ks. k ∷ ks) o) ≡ judging (λ ks. f (k ∷ ks)) o
 judging_with f k (answer ks) = refl
 judging_with f k (refusal code place) = refl
 
 -- ---- a line is taken up
-module _ (unit number : ℕ) (shown text raw : Text) (end : Legality) (later : Option Kept → Outcome (List Kept)) (is_shown : shown_fields raw ≡ shown)
+module _ (unit number : ℕ) (shown text raw : Text) (end : Verdict) (later : Option Kept → Outcome (List Kept)) (is_shown : shown_fields raw ≡ shown)
     (strict : is_strict text ≡ true) (numbered : 1 ≤ number) where
   abbrev k : Kept
   k = record { line = number; raw = raw; text = text }
@@ -75,13 +72,13 @@ module _ (unit number : ℕ) (shown text raw : Text) (end : Legality) (later : O
     abbrev by_name : Bool → Outcome (List Kept)
     by_name b = cond b (refuse 22 number) (with_answer (λ ks. k ∷ ks) (later (some k)))
 
-    abbrev so-far : List Kept → Legality
+    abbrev so-far : List Kept → Verdict
     so-far ks = verdict unit h.judged held.begun held.before (held.line ∷ ks)
 
     ends_by : (b : Bool) → (names && not (same_name_bytes old_shown old shown text)) ≡ b → end ≡ judging so-far (by_name b)
     ends_by b e = held.ends ∙ ap (λ (x : Bool). judging so-far (by_name x)) (ap₂ (λ (x y : Bool). x && not y) same_names bytes_are ∙ e)
 
-    pub held_misnamed : names ≡ true → same_name_bytes old_shown old shown text ≡ false → end ≡ legalities.Refused 22 (capped number)
+    pub held_misnamed : names ≡ true → same_name_bytes old_shown old shown text ≡ false → end ≡ refusal 22 (capped number)
     held_misnamed e f = ends_by true (ap₂ (λ (x y : Bool). x && not y) e f)
 
     pub held_next : (goes : Bool) (j : Judged) (m n : ℕ) → names ≡ goes → (names && not (same_name_bytes old_shown old shown text)) ≡ false
@@ -106,13 +103,13 @@ module _ (unit number : ℕ) (shown text raw : Text) (end : Legality) (later : O
     }
 
 -- ---- the end
-pub held-last : (unit : ℕ) (h : Held) (shown old : Text) (end : Legality) (held : LineHeld unit h shown old end (λ before. answer [])) (j : Judged)
+pub held-last : (unit : ℕ) (h : Held) (shown old : Text) (end : Verdict) (held : LineHeld unit h shown old end (λ before. answer [])) (j : Judged)
     (b : Behind unit false held.line held.before held.begun h.judged j) → end ≡ verdict unit j b.begun-behind (some held.line) []
 unfolding continues
 held-last unit h shown old end held j b = held.ends ∙ b.same-verdict [] refl
 
 -- ---- what is held, whether a line or none
-module _ (unit : ℕ) (h : Held) (shown text : Text) (end : Legality) (later : Option Kept → Outcome (List Kept)) where
+module _ (unit : ℕ) (h : Held) (shown text : Text) (end : Verdict) (later : Option Kept → Outcome (List Kept)) where
   pub holds_same : (other : Option Kept → Outcome (List Kept)) (x : Bool) → HoldsBy x unit h shown text end later
       → ((before : Option Kept) → later before ≡ other before) → HoldsBy x unit h shown text end other
   holds_same other true l e = record {
@@ -131,7 +128,7 @@ module _ (unit : ℕ) (h : Held) (shown text : Text) (end : Legality) (later : O
   holds_same other false n e = record { tracks = n.tracks; ends = n.ends ∙ ap (judging (verdict unit h.judged none none)) (e none) }
 
   pub holds_refused : (x : Bool) (code place : ℕ) → HoldsBy x unit h shown text end later
-      → ((before : Option Kept) → later before ≡ refuse code place) → end ≡ legalities.Refused code (capped place)
+      → ((before : Option Kept) → later before ≡ refuse code place) → end ≡ refusal code (capped place)
   holds_refused true code place l e = l.ends ∙ ap (judging (λ ks. verdict unit h.judged l.begun l.before (l.line ∷ ks))) (e (some l.line))
   holds_refused false code place n e = n.ends ∙ ap (judging (verdict unit h.judged none none)) (e none)
 
@@ -144,7 +141,7 @@ module _ (unit : ℕ) (h : Held) (shown text : Text) (end : Legality) (later : O
   holds-numbered false n e = clash cc
 
 -- the fronts of the two arrays
-pub held_bytes : {unit : ℕ} {h : Held} {end : Legality} {later : Option Kept → Outcome (List Kept)} (shown text : Text) (m n : ℕ) → m ≤ length shown → n ≤ length text
+pub held_bytes : {unit : ℕ} {h : Held} {end : Verdict} {later : Option Kept → Outcome (List Kept)} (shown text : Text) (m n : ℕ) → m ≤ length shown → n ≤ length text
     → HeldNow unit (take m shown) (take n text) end later h → HeldBytes unit h shown text end later
 held_bytes {unit} {h} {end} {later} shown text m n f g now =
     let a : h.shown ≡ m = now.shown_is ∙ length-take-le m shown f in
@@ -195,7 +192,6 @@ answer_strict place raw t e = go (any_high u) (has_tab raw) (is_strict u) refl e
     go false tabbed true f e = ap is_strict (sym (answer-same u t e)) ∙ f
     go false tabbed false f e = clash cc
 
-pub strict_fits : (raw : Text) (s : Strict) (shown text : Text) → StrictTold raw s shown text → StrictFits s shown text
-strict_fits raw (strict-cases.Line m n site) shown text t = (t.shown-fits, (t.line-fits, answer_strict 0 raw (take n text) (t.is_line 0)))
-strict_fits raw strict-cases.Malformed shown text t = tt
-strict_fits raw strict-cases.NotAscii shown text t = tt
+pub strict_fits : (raw : Text) (s : Result StrictLine ℕ) (shown text : Text) → StrictTold raw s shown text → StrictFits s shown text
+strict_fits raw (Ok l) shown text t = (t.shown-fits, (t.line-fits, answer_strict 0 raw (take l.size text) (t.is_line 0)))
+strict_fits raw (Err code) shown text t = tt

@@ -1,17 +1,16 @@
 -- The check between two raw lines: what is held, with the lines to come, ends as the whole text does.
-use mathlib.Core.Path.{◌≡◌, refl, sym, ◌∙◌, ap, ap₂, subst}
+use mathlib.Core.Path.{◌≡◌, refl, sym, ◌∙◌, ap}
 use mathlib.Core.Bool.{Bool, true, false, cond}
-use mathlib.Core.List.{List, [], ◌∷◌}
+use mathlib.Core.List.{List, []}
 use mathlib.Core.Option.{Option, some, none}
-use Prim.Native.Nat.{ℕ, suc, ◌+◌, ◌<◌, ◌≤◌}
+use Prim.Native.Nat.{ℕ, ◌+◌, ◌<◌, ◌≤◌}
 use native.Mathlib.Numerals.{add-one}
 use native.Mathlib.Omega.{arith}
 use lib.ListN.{length, take, drop, drop_of_length-le}
 use lib.Seq.{slice}
 use Rattle.base_outcome.specs.Outcome.{Outcome, answer, refusal, ◌then◌}
 use Rattle.base_outcome.specs.Tests.{refuse_first}
-use Rattle.base_outcome.specs.Machine.{legality}
-use Rattle.base_outcome.specs.declared.Legality.{Legality}
+use Rattle.base_outcome.specs.Machine.{passed}
 use Rattle.base_text.specs.Bytes.{Text}
 use Rattle.spec_tucson.specs.Line.{lines_of}
 use Rattle.spec_tucson.specs.Series.{Series}
@@ -21,14 +20,14 @@ use Rattle.spec_tucson.specs.CleanSeries.{year_fault, Fault, series_fault, refus
 use Rattle.spec_tucson.specs.CleanCall.{checked_lines}
 use Rattle.tucson_lines.specs.Machine.{LineEnd, line_found}
 use Rattle.tucson_lines.proofs.Lines.{end_within, lines_step}
-use Rattle.tucson_judge.specs.Judging.{fault_at, mark_found, refused_or, reader_told, pick, verdict}
-use Rattle.tucson_check.specs.Holding.{unheld, judging, HoldsBy, Holds, HeldBytes, taking}
+use Rattle.tucson_judge.specs.Judging.{Verdict, mark_found, reader_told, pick, verdict}
+use Rattle.tucson_check.specs.Holding.{unheld, judging, Holds, HeldBytes, taking}
 use Rattle.tucson_check.specs.declared.Held.{Held}
 use Rattle.tucson_check.proofs.HeldLines.{holds_same}
 
 -- What the whole text ends with.
-abbrev pub ending : ℕ → ℕ → Text → Legality
-ending header unit body = legality (kept_lines header 1 none (lines_of body) then checked_lines unit)
+abbrev pub ending : ℕ → ℕ → Text → Verdict
+ending header unit body = passed (kept_lines header 1 none (lines_of body) then checked_lines unit)
 
 -- What holds before a raw line.
 pub record Checks (body : Text) (header unit : ℕ) (shown text : Text) (h : Held) (from number : ℕ) : Type 0 where
@@ -38,23 +37,23 @@ pub record Checks (body : Text) (header unit : ℕ) (shown text : Text) (h : Hel
   pub held : HeldBytes unit h shown text (ending header unit body) (λ before. kept_lines header number before (lines_of (drop from body)))
 
 -- ---- at the start
-legal_lines : (o : Outcome (List Series)) (ks : List Kept) → legality (o then λ ss. answer ks) ≡ legality o
-unfolding legality
+legal_lines : (o : Outcome (List Series)) (ks : List Kept) → passed (o then λ ss. answer ks) ≡ passed o
+unfolding passed
 legal_lines (answer ss) ks = refl
 legal_lines (refusal code place) ks = refl
 
-checked-verdict : (unit : ℕ) (ks : List Kept) → legality (checked_lines unit ks) ≡ verdict unit unheld.judged none none ks
-unfolding checked_lines verdict line_found mark_found reader_told legality
+checked-verdict : (unit : ℕ) (ks : List Kept) → passed (checked_lines unit ks) ≡ verdict unit unheld.judged none none ks
+unfolding checked_lines verdict line_found mark_found reader_told passed
 checked-verdict unit ks = go (year_fault none ks) (series_fault unit none ks)
   where
-    go : (y : Option ℕ) (f : Option Fault) → legality (refuse_first 23 y
-        (refuse_fault f (read_kept none (closed_lines unit ks) then λ ss. answer (closed_lines unit ks)))) ≡ pick y f (legality (read_kept none (closed_lines unit ks)))
+    go : (y : Option ℕ) (f : Option Fault) → passed (refuse_first 23 y
+        (refuse_fault f (read_kept none (closed_lines unit ks) then λ ss. answer (closed_lines unit ks)))) ≡ pick y f (passed (read_kept none (closed_lines unit ks)))
     go (some line) f = refl
     go none (some f) = refl
     go none none = legal_lines (read_kept none (closed_lines unit ks)) (closed_lines unit ks)
 
-by_verdict : (unit : ℕ) (o : Outcome (List Kept)) → legality (o then checked_lines unit) ≡ judging (verdict unit unheld.judged none none) o
-unfolding legality
+by_verdict : (unit : ℕ) (o : Outcome (List Kept)) → passed (o then checked_lines unit) ≡ judging (verdict unit unheld.judged none none) o
+unfolding passed
 by_verdict unit (answer ks) = checked-verdict unit ks
 by_verdict unit (refusal code place) = refl
 
@@ -66,7 +65,7 @@ checks-start body header unit shown text = record {
   held = record {
     shown-fits = omega arith;
     text-fits = omega arith;
-    holds = record { tracks = λ e. (refl, refl); ends = by_verdict unit (kept_lines header 1 none (lines_of body)) };
+    holds = record { tracks = (refl, refl); ends = by_verdict unit (kept_lines header 1 none (lines_of body)) };
   };
 }
 

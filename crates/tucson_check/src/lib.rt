@@ -6,7 +6,7 @@ ghost use Rattle.std.specs.Prelude.{◌&&◌, not, ◌≡◌, ◌+◌, ◌-◌, 
 ghost use Rattle.std.proofs.Math.Option.{none};
 ghost use Rattle.std.proofs.Math.Seq.{slice};
 ghost use Rattle.base_outcome.specs.Outcome.{◌then◌};
-ghost use Rattle.base_outcome.specs.Machine.{legality};
+ghost use Rattle.base_outcome.specs.Machine.{reply, passed};
 ghost use Rattle.spec_tucson.specs.Line.{name_columns, lines_of};
 ghost use Rattle.spec_tucson.specs.KeptLines.{is_data, kept_lines};
 ghost use Rattle.spec_tucson.specs.CleanCall.{checked_lines};
@@ -14,9 +14,9 @@ ghost use Rattle.tucson_lines.specs.Machine.{LineEnd};
 ghost use Rattle.tucson_check.specs.Holding.{unheld, NamesAsk, same_name_bytes, FollowAsks, FollowTold, TakeAsks, TakeTold, FinishAsks};
 ghost use Rattle.tucson_check.specs.Holding.{FinishTold};
 
-use base_outcome::{Legality, codes, limits};
-use tucson_judge::{Judged, Mark, Reader};
-use tucson_shown::Strict;
+use base_outcome::{Refusal, codes, limits};
+use tucson_judge::{Judged, Reader};
+use tucson_shown::StrictLine;
 
 // The line that is held: whether there is one, how many bytes are shown of it and how many it has, its number, whether it follows its
 // series; and what was found in the lines before it.
@@ -30,37 +30,20 @@ pub struct Held {
     pub judged: Judged,
 }
 
-// The line is held now, or its name is not the bytes of the name before it.
-#[derive(Clone, Copy)]
-pub enum Next {
-    Held(Held),
-    Misnamed,
-}
-
-// The line is held now, or refused by a code.
-#[derive(Clone, Copy)]
-pub enum Taken {
-    Held(Held),
-    Refused(u8),
-}
-
 // Nothing is held, and nothing was found.
 fn nothing() -> Held
     ensures { result ≡ unheld }
 {
-    let fault = Mark { code: 0, line: 0 };
     let reader = Reader {
-        code: 0,
-        line: 0,
         begun: false,
         next: 0,
         small: true,
     };
     let judged = Judged {
         year: 0,
-        fault: fault,
+        fault: None,
         seen: 0,
-        reader: reader,
+        reader: Ok(reader),
     };
     Held {
         some: false,
@@ -105,7 +88,7 @@ fn is_misnamed(shown: &[u8], line: &[u8], old_shown: &[u8], old: &[u8]) -> bool
     !tucson_names::same_text(&old_shown[..before], &shown[..width])
 }
 
-// Takes up a strict line: the one that is held is judged, and this one is held.
+// Takes up a strict line, unless its name is not the bytes of the name before it: the one that is held is judged, and this one is held.
 fn follow(
     h: Held,
     old_shown: &[u8],
@@ -114,13 +97,13 @@ fn follow(
     line: &[u8],
     number: usize,
     unit: u32,
-) -> Next
+) -> Option<Held>
     requires { FollowAsks h old.now line.now number }
     ensures { FollowTold unit h old_shown.now old.now shown.now line.now number result }
 {
     let judged = h.judged;
     if !h.some {
-        return Next::Held(Held {
+        return Some(Held {
             some: true,
             shown: shown.len(),
             size: line.len(),
@@ -132,11 +115,11 @@ fn follow(
     let goes = tucson_names::same_text(&old[..limits::NAME_COLUMNS], &line[..limits::NAME_COLUMNS]);
     if goes {
         if is_misnamed(shown, line, old_shown, old) {
-            return Next::Misnamed;
+            return None;
         }
     }
     let next = tucson_judge::judge(judged, old, h.number, h.follows, goes, unit);
-    Next::Held(Held {
+    Some(Held {
         some: true,
         shown: shown.len(),
         size: line.len(),
@@ -148,7 +131,7 @@ fn follow(
 
 // Takes up a line of data by what is told of it: it is held, or refused by its code.
 fn take_up(
-    strict: Strict,
+    strict: Result<StrictLine, u8>,
     held: Held,
     old_shown: [u8; tucson_columns::CELLS],
     old: [u8; tucson_columns::CELLS],
@@ -156,35 +139,25 @@ fn take_up(
     line: [u8; tucson_columns::CELLS],
     number: usize,
     unit: u32,
-) -> Taken
+) -> Result<Held, u8>
     requires { TakeAsks strict held old_shown old shown line number }
     ensures { TakeTold unit strict held old_shown old number shown line result }
 {
-    match strict {
-        Strict::Malformed => Taken::Refused(codes::TUCSON_LINE),
-        Strict::NotAscii => Taken::Refused(codes::FILE_BYTES),
-        Strict::Line(m, n, site) => {
-            let p = held.shown;
-            let q = held.size;
-            let next = follow(
-                held,
-                &old_shown[..p],
-                &old[..q],
-                &shown[..m],
-                &line[..n],
-                number,
-                unit,
-            );
-            match next {
-                Next::Misnamed => Taken::Refused(codes::FILE_BYTES),
-                Next::Held(h) => Taken::Held(h),
-            }
-        }
-    }
+    let l = strict?;
+    follow(
+        held,
+        &old_shown[..held.shown],
+        &old[..held.size],
+        &shown[..l.shown],
+        &line[..l.size],
+        number,
+        unit,
+    )
+    .ok_or(codes::FILE_BYTES)
 }
 
 // The verdict where no line is to come.
-fn finish(h: Held, old: &[u8], unit: u32) -> Legality
+fn finish(h: Held, old: &[u8], unit: u32) -> Result<(), Refusal>
     requires { FinishAsks h old.now }
     ensures { FinishTold unit h old.now result }
 {
@@ -198,14 +171,15 @@ fn finish(h: Held, old: &[u8], unit: u32) -> Legality
 }
 
 // Whether a strict text can be made of the lines below a header that ends with the line named, or the first refusal.
-pub fn check(body: &[u8], header: usize, unit: u32) -> Legality
-    ensures { result ≡ legality (kept_lines header 1 none (lines_of body.now) then checked_lines unit) }
+pub fn check(body: &[u8], header: usize, unit: u32) -> Result<(), Refusal>
+    ensures { reply result ≡ passed (kept_lines header 1 none (lines_of body.now) then checked_lines unit) }
 {
     let mut old_shown = [0; tucson_columns::CELLS];
     let mut old = [0; tucson_columns::CELLS];
     let mut held = nothing();
     let mut from = 0;
     let mut number = 1;
+    // A `while`: each turn goes on behind the end of a line.
     while from < body.len() {
         let end = base_text::fields::find(body, from, body.len(), b'\n');
         if !is_data(body, header, number, from, end) {
@@ -218,17 +192,18 @@ pub fn check(body: &[u8], header: usize, unit: u32) -> Legality
         let strict = tucson_shown::strict_line(body, from, end, &mut shown, &mut line);
         let taken = take_up(strict, held, old_shown, old, shown, line, number, unit);
         match taken {
-            Taken::Refused(code) => {
-                return Legality::Refused(code, base_outcome::place(number));
+            Err(code) => {
+                return Err(Refusal {
+                    code,
+                    place: base_outcome::place(number),
+                });
             }
-            Taken::Held(h) => {
-                held = h;
-                old_shown = shown;
-                old = line;
-                from = end + 1;
-                number += 1;
-            }
+            Ok(h) => held = h,
         }
+        old_shown = shown;
+        old = line;
+        from = end + 1;
+        number += 1;
     }
     let size = held.size;
     finish(held, &old[..size], unit)

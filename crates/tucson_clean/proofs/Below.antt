@@ -1,14 +1,12 @@
 -- What is made of the lines below a header, by what their check says.
-use mathlib.Core.Path.{◌≡◌, refl, sym, ◌∙◌, ap}
+use mathlib.Core.Path.{◌≡◌, refl, sym, ap}
 use mathlib.Core.List.{List, map}
 use mathlib.Core.Option.{Option, some, none}
 use Prim.Native.Nat.{ℕ}
 use Rattle.base_exact.proofs.Decide.{clash}
 use Rattle.base_outcome.specs.Outcome.{Outcome, answer, refusal, ◌then◌}
 use Rattle.base_outcome.specs.Tests.{refuse_first}
-use Rattle.base_outcome.specs.Machine.{legality}
-use Rattle.base_outcome.specs.declared.Legality.{Legality}
-use Rattle.base_outcome.specs.declared.Legality.TheVariants.{Legal, Refused}
+use Rattle.base_outcome.specs.Machine.{passed}
 use Rattle.base_text.specs.Bytes.{Text}
 use Rattle.spec_tucson.specs.Line.{lines_of}
 use Rattle.spec_tucson.specs.Series.{Series}
@@ -41,11 +39,11 @@ module _ (t : Text) (unit h : ℕ) where
   abbrev finish : List Kept → List Kept → Outcome Cleaned
   finish ks cs = answer (record { text = strict_text cs; lines = map (λ k. k.line) cs; notes = all_notes t unit h ks })
 
-  pub below_legal : legality (kept_lines h 1 none (lines_of (text_of t)) then checked_lines unit) ≡ Legal → Made t unit h
-  unfolding cleaned_below legality
+  pub below_legal : passed (kept_lines h 1 none (lines_of (text_of t)) then checked_lines unit) ≡ answer tt → Made t unit h
+  unfolding cleaned_below passed
   below_legal e = go (kept_lines h 1 none (lines_of (text_of t))) refl e
     where
-      inner : (ks : List Kept) → kept_lines h 1 none (lines_of (text_of t)) ≡ answer ks → (o : Outcome (List Kept)) → checked_lines unit ks ≡ o → legality o ≡ Legal → Made t unit h
+      inner : (ks : List Kept) → kept_lines h 1 none (lines_of (text_of t)) ≡ answer ks → (o : Outcome (List Kept)) → checked_lines unit ks ≡ o → passed o ≡ answer tt → Made t unit h
       inner ks k (answer cs) c l = record {
         lines = ks;
         kept = k;
@@ -53,21 +51,21 @@ module _ (t : Text) (unit h : ℕ) where
       }
       inner ks k (refusal code place) c l = clash cc
 
-      go : (o : Outcome (List Kept)) → kept_lines h 1 none (lines_of (text_of t)) ≡ o → legality (o then checked_lines unit) ≡ Legal → Made t unit h
+      go : (o : Outcome (List Kept)) → kept_lines h 1 none (lines_of (text_of t)) ≡ o → passed (o then checked_lines unit) ≡ answer tt → Made t unit h
       go (answer ks) k l = inner ks k (checked_lines unit ks) refl l
       go (refusal code place) k l = clash cc
 
-  pub below_refused : (code place : ℕ) → legality (kept_lines h 1 none (lines_of (text_of t)) then checked_lines unit) ≡ Refused code place
+  pub below_refused : (code place : ℕ) → passed (kept_lines h 1 none (lines_of (text_of t)) then checked_lines unit) ≡ refusal code place
       → cleaned_below t unit h ≡ refusal code place
-  unfolding cleaned_below legality
+  unfolding cleaned_below passed
   below_refused code place e = go (kept_lines h 1 none (lines_of (text_of t))) e
     where
-      inner : (ks : List Kept) (o : Outcome (List Kept)) → legality o ≡ Refused code place
+      inner : (ks : List Kept) (o : Outcome (List Kept)) → passed o ≡ refusal code place
           → (o then finish ks) ≡ refusal code place
       inner ks (answer cs) l = clash cc
       inner ks (refusal c p) l = cc
 
-      go : (o : Outcome (List Kept)) → legality (o then checked_lines unit) ≡ Refused code place
+      go : (o : Outcome (List Kept)) → passed (o then checked_lines unit) ≡ refusal code place
           → (o then λ ks. checked_lines unit ks then finish ks) ≡ refusal code place
       go (answer ks) l = inner ks (checked_lines unit ks) l
       go (refusal c p) l = cc

@@ -1,17 +1,16 @@
 -- Where the text of a file stands.
-use mathlib.Core.Path.{◌≡◌, refl, sym, ◌∙◌, ap, ap₂}
+use mathlib.Core.Path.{◌≡◌, refl, sym, ◌∙◌, ap}
 use mathlib.Core.Bool.{Bool, true, false}
 use Prim.Native.Nat.{ℕ, ◌+◌, ◌-◌, ◌^◌, ◌<◌, ◌≤◌}
 use native.Mathlib.Omega.{arith}
 use borrow.Author.Tests.{lt-ltb, le-ltb, ltb-true, ltb-false}
 use lib.Dec.{eqb, ltb}
 use lib.ListN.{length, take, drop, length-drop}
-use lib.Seq.{slice}
 use Rattle.base_text.specs.Bytes.{Text, index_of}
 use Rattle.base_text.proofs.Cutting.{index-within}
-use Rattle.spec_tucson.specs.FileText.{substitute, unmarked, text_of, ends_early}
+use Rattle.spec_tucson.specs.FileText.{substitute, text_of, ends_early}
 use Rattle.tucson_file.specs.Machine.{StartIs}
-use Rattle.tucson_clean.specs.Machine.{part, BodyAt}
+use Rattle.tucson_clean.specs.Machine.{BodyAt}
 
 -- one test by another that says the same
 same_test : (a b c d : ℕ) → (a < b → c < d) → (b ≤ a → d ≤ c) → ltb a b ≡ ltb c d

@@ -1,11 +1,11 @@
 -- What is made of a file by the tests before its lines: the options, its length, its bytes.
-use mathlib.Core.Path.{◌≡◌, refl, sym, ◌∙◌, ap}
+use mathlib.Core.Path.{◌≡◌, refl, ◌∙◌, ap}
 use mathlib.Core.Bool.{Bool, true, false, cond}
 use mathlib.Core.Option.{Option, some, none}
 use Prim.Native.Nat.{ℕ}
 use lib.Dec.{leb}
 use lib.ListN.{length}
-use Rattle.base_outcome.specs.Outcome.{Outcome, answer, refusal, capped, refuse, largest_place, ◌then◌}
+use Rattle.base_outcome.specs.Outcome.{Outcome, refusal, capped, refuse, largest_place, ◌then◌}
 use Rattle.base_outcome.specs.Tests.{refuse_first}
 use Rattle.base_text.specs.Bytes.{Text}
 use Rattle.spec_tucson.specs.Line.{lines_of}

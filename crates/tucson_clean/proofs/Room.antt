@@ -1,23 +1,24 @@
 -- The buffers, where there is room for all, and where one is too short.
-use mathlib.Core.Path.{◌≡◌, refl, sym, ◌∙◌, ap, ap₂, subst}
-use mathlib.Core.Bool.{Bool, true, false, cond}
+use mathlib.Core.Path.{◌≡◌, sym, ◌∙◌, ap, ap₂, subst}
+use mathlib.Core.Bool.{Bool, true, cond}
 use mathlib.Core.List.{List}
-use Prim.Native.Nat.{ℕ, ◌+◌, ◌/◌, ◌<◌, ◌≤◌}
+use Prim.Native.Nat.{ℕ, ◌/◌, ◌<◌, ◌≤◌}
 use native.Mathlib.Omega.{arith}
 use borrow.Author.Tests.{le-leb, lt-leb}
 use lib.Dec.{leb}
 use lib.ListN.{length}
 use Rattle.base_outcome.specs.Outcome.{Outcome, answer, refusal, refuse, capped, with_answer}
-use Rattle.base_print.specs.Buffer.{Puts}
 use Rattle.base_text.specs.Bytes.{Text}
 use Rattle.spec_tucson.specs.Line.{lines_of}
 use Rattle.spec_tucson.specs.FileText.{text_of}
 use Rattle.spec_tucson.specs.StrictLine.{Kept}
-use Rattle.spec_tucson.specs.CleanCall.{Cleaned, if_room, Counts, counts_of, laid}
+use Rattle.spec_tucson.specs.CleanCall.{Cleaned, if_room, counts_of, laid}
 use Rattle.tucson_putting.proofs.Wrote.{written-whole}
 use Rattle.tucson_walk.specs.declared.Walked.{Walked}
-use Rattle.tucson_clean.specs.declared.Cleaned as machine
-use Rattle.tucson_clean.specs.declared.Cleaned.TheVariants as machine-cases
+use Rattle.std.specs.Prelude.{Result, Ok, Err}
+use Rattle.base_outcome.specs.Machine.{refused}
+use Rattle.base_outcome.specs.declared.Refusal.{Refusal}
+use Rattle.tucson_clean.specs.declared.Counts as machine
 use Rattle.tucson_clean.specs.Machine.{RoomFor, AllPut, Measured, counts, Ends, made_of}
 
 pub measured : {t : Text} {h unit : ℕ} {ks : List Kept} {out out' : Text} {lines lines' notes notes' : List ℕ} {r : Walked}
@@ -30,7 +31,7 @@ measured p = record {
 
 -- a refusal leaves the buffers as they were
 pub ends_refused : (o : Outcome Cleaned) (code place : ℕ) (out : Text) (lines notes : List ℕ) → o ≡ refusal code place
-    → Ends o out out lines lines notes notes (machine-cases.Refused code place)
+    → Ends o out out lines lines notes notes (Err (refused code place))
 unfolding counts laid
 ends_refused o code place out lines notes e = record {
   answers = sym (ap (with_answer counts_of) e);
@@ -61,10 +62,14 @@ module _ (c : Cleaned) (out lines notes : ℕ) where
   room_for_all f g h = ap₂ (λ (x y : Bool). by_tests x y (leb (length c.notes) notes)) (le-leb (length c.text) out f) (le-leb (length c.lines) lines g)
       ∙ ap (λ (z : Bool). by_tests true true z) (le-leb (length c.notes) notes h)
 
+-- What is counted of what is put.
+abbrev pub put : Walked → machine.Counts
+put r = record { bytes = r.bytes; lines = r.lines; notes = r.cells / 2 }
+
 pub ends_answered : {t : Text} {h unit : ℕ} {ks : List Kept} {out out' : Text} {lines lines' notes notes' : List ℕ} {r : Walked} (o : Outcome Cleaned)
     → o ≡ answer (made_of t h unit ks) → AllPut t h unit ks out out' lines lines' notes notes' r
     → length (made_of t h unit ks).text ≤ length out → length (made_of t h unit ks).lines ≤ length lines → length (made_of t h unit ks).notes ≤ length notes
-    → Ends o out out' lines lines' notes notes' (machine-cases.Counts r.bytes r.lines (r.cells / 2))
+    → Ends o out out' lines lines' notes notes' (Ok (put r))
 unfolding counts laid
 ends_answered {t} {h} {unit} {ks} {out} {out'} {lines} {lines'} {notes} {notes'} {r} o e p f g i =
     let m = measured p in
@@ -82,7 +87,7 @@ pub ends-ample : {t : Text} {h unit : ℕ} {ks : List Kept} {out out' : Text} {l
     → count ≡ length (lines_of (text_of t)) → RoomFor count (length out) (length lines) (length notes)
     → AllPut t h unit ks out out' lines lines' notes notes' r
     → Ends (if_room (length out) (length lines) (length notes) (made_of t h unit ks)) out out' lines lines' notes notes'
-    (machine-cases.Counts r.bytes r.lines (r.cells / 2))
+    (Ok (put r))
 ends-ample {t} {h} {unit} {ks} {out} {out'} {lines} {lines'} {notes} {notes'} {r} count e room p =
     let m = measured p in
     let made = made_of t h unit ks in
@@ -91,6 +96,7 @@ ends-ample {t} {h} {unit} {ks} {out} {out'} {lines} {lines'} {notes} {notes'} {r
     let z : length made.notes ≤ length notes = omega (arith, e, m.cells_are, p.cells-put.near, room.cells_fit) in
     ends_answered _ (room_for_all made (length out) (length lines) (length notes) x y z) p x y z
 
-pub ends_same : {o p : Outcome Cleaned} {out out' : Text} {lines lines' notes notes' : List ℕ} {r : machine.Cleaned} → o ≡ p → Ends o out out' lines lines' notes notes' r
+pub ends_same : {o p : Outcome Cleaned} {out out' : Text} {lines lines' notes notes' : List ℕ} {r : Result machine.Counts Refusal}
+    → o ≡ p → Ends o out out' lines lines' notes notes' r
     → Ends p out out' lines lines' notes notes' r
 ends_same {o} {p} {out} {out'} {lines} {lines'} {notes} {notes'} {r} e = subst (λ (x : Outcome Cleaned). Ends x out out' lines lines' notes notes' r) e

@@ -6,7 +6,6 @@ use native.Mathlib.Omega.{arith}
 use Rattle.base_text.specs.Bytes.{Text}
 use Rattle.tucson_file.specs.Machine.{end_count, last_ends}
 use Rattle.tucson_file.proofs.LineEnds.{lines_by_ends, ended_by_last, lines_few}
-use Rattle.tucson_clean.specs.declared.Tail.{Tail}
 use Rattle.tucson_clean.specs.Machine.{TailIs}
 
 pub tail_is : (body : Text) (count : ℕ) (ended : Bool) → ended ≡ last_ends body → count ≡ end_count body + cond ended 0 1

@@ -1,27 +1,25 @@
 -- All notes of a file: its mark, its lines, its end.
-use mathlib.Core.Path.{◌≡◌, refl, sym, ◌∙◌, ap, ap₂}
+use mathlib.Core.Path.{◌≡◌, refl, ◌∙◌, ap, ap₂}
 use mathlib.Core.Bool.{Bool, true, false, cond, ◌&&◌}
-use mathlib.Core.List.{List, [], ◌∷◌, ◌++◌, append_assoc}
+use mathlib.Core.List.{List, [], ◌∷◌}
 use mathlib.Core.Option.{none}
-use Prim.Native.Nat.{ℕ, suc, ◌+◌, ◌*◌, ◌<◌, ◌≤◌}
+use Prim.Native.Nat.{ℕ, suc, ◌+◌}
 use native.Mathlib.Numerals.{add-one}
 use native.Mathlib.Omega.{arith}
 use lib.Dec.{ltb}
 use lib.ListN.{length}
-use Rattle.base_outcome.specs.Outcome.{answer}
 use Rattle.base_print.specs.Buffer.{Puts}
 use Rattle.base_print.proofs.Buffer.{puts_then, puts_within, puts_as}
 use Rattle.base_text.specs.Bytes.{Text}
 use Rattle.spec_tucson.specs.Line.{lines_of}
 use Rattle.spec_tucson.specs.FileText.{is_marked, text_of, ends_early}
-use Rattle.spec_tucson.specs.StrictLine.{Kept}
 use Rattle.spec_tucson.specs.KeptLines.{kept_lines}
 use Rattle.spec_tucson.specs.CleanNotes.{note_if, at_line, notes_of}
 use Rattle.spec_tucson.specs.CleanCall.{mark_note, all_ended, end_note, at_start, all_notes}
 use Rattle.tucson_walk.specs.declared.Walked.{Walked}
 use Rattle.tucson_walk.specs.Walking.{WalkTold}
 use Rattle.tucson_clean.specs.declared.Tail.{Tail}
-use Rattle.tucson_clean.specs.Machine.{TailIs, part, BodyAt, AllPut, PutTold}
+use Rattle.tucson_clean.specs.Machine.{TailIs, part, BodyAt, PutTold}
 
 -- one note on a line, where it applies
 one_note : (b : Bool) (n line : ℕ) → at_line line (note_if b n []) ≡ cond b (n ∷ line ∷ []) []

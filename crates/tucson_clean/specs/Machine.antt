@@ -1,7 +1,9 @@
 -- The machine's form of the call: where the text of a file stands, and what is put for the whole of it.
-use Rattle.std.specs.Prelude.{Bool, true, false, List, [], ◌∷◌, map, ◌≡◌, ℕ, ◌+◌, ◌-◌, ◌*◌, ◌^◌, ◌<◌, ◌≤◌, ltb, length, take, drop}
-use Rattle.std.proofs.Math.Option.{Option, none}
+use Rattle.std.specs.Prelude.{Bool, true, List, ◌≡◌, ℕ, ◌+◌, ◌-◌, ◌*◌, ◌^◌, ◌<◌, ◌≤◌, ltb, length, take, drop}
+use Rattle.std.specs.Prelude.{Result, Ok, Err}
+use Rattle.std.proofs.Math.Option.{none}
 use Rattle.base_outcome.specs.Outcome.{Outcome, answer, refusal, with_answer}
+use Rattle.base_outcome.specs.declared.Refusal.{Refusal}
 use Rattle.base_print.specs.Buffer.{Puts}
 use Rattle.base_text.specs.Bytes.{Text}
 use Rattle.spec_tucson.specs.Line.{lines_of}
@@ -14,8 +16,7 @@ use Rattle.tucson_notes.specs.Machine.{bytes_per_line, cells_per_line, cells_per
 use Rattle.tucson_walk.specs.declared.Walked.{Walked}
 use Rattle.tucson_walk.specs.Walking.{numbers_of}
 use Rattle.tucson_clean.specs.declared.Tail.{Tail}
-use Rattle.tucson_clean.specs.declared.Cleaned as machine
-use Rattle.tucson_clean.specs.declared.Cleaned.TheVariants as machine-cases
+use Rattle.tucson_clean.specs.declared.Counts as machine
 
 -- How many lines a text has, and whether the last one has its end.
 pub record TailIs (body : Text) (r : Tail) : Type 0 where
@@ -75,17 +76,17 @@ abbrev pub MeasureTold : Text → ℕ → ℕ → Walked → Type 0
 MeasureTold t h unit r = (ks : List Kept) → kept_lines h 1 none (lines_of (text_of t)) ≡ answer ks → Measured t h unit ks r
 
 -- The specification's words for what is answered.
-unfoldable pub counts : machine.Cleaned → Outcome Counts
-counts (machine-cases.Counts b l n) = answer (record { bytes = b; lines = l; notes = n })
-counts (machine-cases.Refused code place) = refusal code place
+unfoldable pub counts : Result machine.Counts Refusal → Outcome Counts
+counts (Ok c) = answer (record { bytes = c.bytes; lines = c.lines; notes = c.notes })
+counts (Err r) = refusal r.code r.place
 
 -- What the call ends with, where this is made of the file.
-pub record Ends (o : Outcome Cleaned) (out out_after : Text) (lines lines_after notes notes_after : List ℕ) (r : machine.Cleaned) : Type 0
-  where
-    pub answers : counts r ≡ with_answer counts_of o
-    pub text_is : out_after ≡ laid (λ c. c.text) o out
-    pub lines_are : lines_after ≡ laid (λ c. c.lines) o lines
-    pub notes_are : notes_after ≡ laid (λ c. c.notes) o notes
+pub record Ends (o : Outcome Cleaned) (out out_after : Text) (lines lines_after notes notes_after : List ℕ)
+    (r : Result machine.Counts Refusal) : Type 0 where
+  pub answers : counts r ≡ with_answer counts_of o
+  pub text_is : out_after ≡ laid (λ c. c.text) o out
+  pub lines_are : lines_after ≡ laid (λ c. c.lines) o lines
+  pub notes_are : notes_after ≡ laid (λ c. c.notes) o notes
 
 -- What is made of the lines that are kept.
 abbrev pub made_of : Text → ℕ → ℕ → List Kept → Cleaned
@@ -96,6 +97,7 @@ made_of t h unit ks = record {
       all_notes t unit h ks;
 }
 
-abbrev pub FillTold : Text → ℕ → ℕ → Text → Text → List ℕ → List ℕ → List ℕ → List ℕ → machine.Cleaned → Type 0
+abbrev pub FillTold : Text → ℕ → ℕ → Text → Text → List ℕ → List ℕ → List ℕ → List ℕ
+    → Result machine.Counts Refusal → Type 0
 FillTold t h unit out out_after lines lines_after notes notes_after r = (ks : List Kept) → kept_lines h 1 none (lines_of (text_of t)) ≡ answer ks
     → Ends (if_room (length out) (length lines) (length notes) (made_of t h unit ks)) out out_after lines lines_after notes notes_after r

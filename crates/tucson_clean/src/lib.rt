@@ -9,8 +9,7 @@ ghost use Rattle.spec_tucson.specs.KeptLines.{header_of};
 ghost use Rattle.spec_tucson.specs.CleanCall.{is_unit_option, cleaned_below, cleaned_file, if_room, clean_end};
 ghost use Rattle.tucson_clean.specs.Machine.{TailIs, BodyAt, CountedAt, AmpleTold, PutTold, MeasureTold, FillTold, Ends, counts};
 
-use base_outcome::{Found, Legality, codes};
-use tucson_header::HeaderFound;
+use base_outcome::{Refusal, codes};
 use tucson_lines::units;
 use tucson_notes::kinds;
 use tucson_walk::Walked;
@@ -22,11 +21,12 @@ pub struct Tail {
     pub ended: bool,
 }
 
-// How many bytes, lines and notes there are, or a refusal.
+// How many bytes, lines and notes there are.
 #[derive(Clone, Copy)]
-pub enum Cleaned {
-    Counts(usize, usize, usize),
-    Refused(u8, u32),
+pub struct Counts {
+    pub bytes: usize,
+    pub lines: usize,
+    pub notes: usize,
 }
 
 // What stands for no named header.
@@ -135,23 +135,36 @@ fn fill_measured(
     out: &mut [u8],
     lines: &mut [usize],
     notes: &mut [usize],
-) -> Cleaned
+) -> Result<Counts, Refusal>
     requires { CountedAt text.now from stop tail }
     ensures { FillTold text.now header unit out.old out.new lines.old lines.new
         notes.old notes.new result }
 {
     let need = measure(text, from, stop, tail, header, unit);
     if out.len() < need.bytes {
-        return Cleaned::Refused(codes::SHORT_BUFFER, 0);
+        return Err(Refusal {
+            code: codes::SHORT_BUFFER,
+            place: 0,
+        });
     }
     if lines.len() < need.lines {
-        return Cleaned::Refused(codes::SHORT_BUFFER, 1);
+        return Err(Refusal {
+            code: codes::SHORT_BUFFER,
+            place: 1,
+        });
     }
     if notes.len() < need.cells {
-        return Cleaned::Refused(codes::SHORT_BUFFER, 2);
+        return Err(Refusal {
+            code: codes::SHORT_BUFFER,
+            place: 2,
+        });
     }
     let put = put_all(text, from, stop, tail, header, unit, out, lines, notes);
-    Cleaned::Counts(put.bytes, put.lines, put.cells / 2)
+    Ok(Counts {
+        bytes: put.bytes,
+        lines: put.lines,
+        notes: put.cells / 2,
+    })
 }
 
 // Fills the buffers, if there is room for all. Nothing is measured where there is room for any text of so many lines.
@@ -164,7 +177,7 @@ fn fill(
     out: &mut [u8],
     lines: &mut [usize],
     notes: &mut [usize],
-) -> Cleaned
+) -> Result<Counts, Refusal>
     requires { BodyAt text.now from stop }
     ensures { FillTold text.now header unit out.old out.new lines.old lines.new
         notes.old notes.new result }
@@ -172,7 +185,11 @@ fn fill(
     let tail = count_lines(&text[from..stop]);
     if is_ample(tail.count, out.len(), lines.len(), notes.len()) {
         let put = put_all(text, from, stop, tail, header, unit, out, lines, notes);
-        return Cleaned::Counts(put.bytes, put.lines, put.cells / 2);
+        return Ok(Counts {
+            bytes: put.bytes,
+            lines: put.lines,
+            notes: put.cells / 2,
+        });
     }
     fill_measured(text, from, stop, tail, header, unit, out, lines, notes)
 }
@@ -187,17 +204,14 @@ fn clean_below(
     out: &mut [u8],
     lines: &mut [usize],
     notes: &mut [usize],
-) -> Cleaned
+) -> Result<Counts, Refusal>
     requires { BodyAt text.now from stop }
     ensures { Ends (cleaned_below text.now unit header
         then if_room (length out.old) (length lines.old) (length notes.old))
         out.old out.new lines.old lines.new notes.old notes.new result }
 {
-    let checked = tucson_check::check(&text[from..stop], header, unit);
-    match checked {
-        Legality::Refused(code, place) => Cleaned::Refused(code, place),
-        Legality::Legal => fill(text, from, stop, header, unit, out, lines, notes),
-    }
+    tucson_check::check(&text[from..stop], header, unit)?;
+    fill(text, from, stop, header, unit, out, lines, notes)
 }
 
 // What is made of a text that has no byte at fault.
@@ -208,7 +222,7 @@ fn clean_text(
     out: &mut [u8],
     lines: &mut [usize],
     notes: &mut [usize],
-) -> Cleaned
+) -> Result<Counts, Refusal>
     requires { length text.now < 2 ^ 32 }
     ensures { Ends ((header_of header (lines_of (text_of text.now)) then cleaned_below text.now unit)
         then if_room (length out.old) (length lines.old) (length notes.old))
@@ -216,11 +230,8 @@ fn clean_text(
 {
     let from = tucson_file::start(text);
     let stop = tucson_file::stop(text, from);
-    let found = tucson_header::header(&text[from..stop], header);
-    match found {
-        HeaderFound::Refused(place) => Cleaned::Refused(codes::FILE_HEADER, place),
-        HeaderFound::Ends(last) => clean_below(text, from, stop, last, unit, out, lines, notes),
-    }
+    let last = tucson_header::header(&text[from..stop], header)?;
+    clean_below(text, from, stop, last, unit, out, lines, notes)
 }
 
 // Whether a unit is not said, hundredths or thousandths.
@@ -244,17 +255,19 @@ fn clean_file(
     out: &mut [u8],
     lines: &mut [usize],
     notes: &mut [usize],
-) -> Cleaned
+) -> Result<Counts, Refusal>
     requires { length text.now < 2 ^ 32 }
     ensures { Ends (cleaned_file text.now header unit
         then if_room (length out.old) (length lines.old) (length notes.old))
         out.old out.new lines.old lines.new notes.old notes.new result }
 {
-    let found = tucson_file::fault(text);
-    match found {
-        Found::At(line) => Cleaned::Refused(codes::FILE_TEXT, base_outcome::place(line)),
-        Found::Nothing => clean_text(text, header, unit, out, lines, notes),
+    if let Some(line) = tucson_file::fault(text) {
+        return Err(Refusal {
+            code: codes::FILE_TEXT,
+            place: base_outcome::place(line),
+        });
     }
+    clean_text(text, header, unit, out, lines, notes)
 }
 
 // Brings a laboratory's file into the strict form: the strict text, for each of its lines the number of that line in the file, and the
@@ -267,19 +280,28 @@ pub fn clean(
     out: &mut [u8],
     lines: &mut [usize],
     notes: &mut [usize],
-) -> Cleaned
+) -> Result<Counts, Refusal>
     ensures { let e = clean_end text.now header unit out.old lines.old notes.old in
         (counts result ≡ e.answers) × ((out.new ≡ e.text)
         × ((lines.new ≡ e.lines) × (notes.new ≡ e.notes))) }
 {
     if header > NO_HEADER_NAMED {
-        return Cleaned::Refused(codes::FILE_HEADER, 0);
+        return Err(Refusal {
+            code: codes::FILE_HEADER,
+            place: 0,
+        });
     }
     if !is_unit(unit) {
-        return Cleaned::Refused(codes::FILE_UNIT, 0);
+        return Err(Refusal {
+            code: codes::FILE_UNIT,
+            place: 0,
+        });
     }
     if text.len() > FILE_LIMIT {
-        return Cleaned::Refused(codes::FILE_TEXT, base_outcome::LARGEST_PLACE);
+        return Err(Refusal {
+            code: codes::FILE_TEXT,
+            place: base_outcome::LARGEST_PLACE,
+        });
     }
     clean_file(text, header, unit, out, lines, notes)
 }

@@ -54,14 +54,12 @@ pub fn shown_end(text: &[u8], from: usize, to: usize) -> usize
     requires { Range text.now from to }
     ensures { ShownTold text.now from to result }
 {
-    let mut i = to;
-    while i > from {
-        if !is_gap(text[i - 1]) {
-            return i;
+    for i in (from..to).rev() {
+        if !is_gap(text[i]) {
+            return i + 1;
         }
-        i -= 1;
     }
-    i
+    from
 }
 
 // Where the part of the line ends that is shown.
@@ -79,11 +77,7 @@ fn put_blanks(bytes: &mut [u8], n: usize) -> usize
     ensures { Put n bytes.old (replicate (tab_blanks n) blank) bytes.new result }
 {
     let next = n + (TAB_WIDTH - n % TAB_WIDTH);
-    let mut i = n;
-    while i < next {
-        bytes[i] = b' ';
-        i += 1;
-    }
+    bytes[n..next].fill(b' ');
     next
 }
 
@@ -111,16 +105,14 @@ pub fn expand(
     requires { ExpandAsks text.now from to count limit bytes.old }
     ensures { Expanded text.now from to count limit bytes.old bytes.new result.at result.count }
 {
-    let mut i = from;
     let mut n = count;
-    while i < to {
+    for i in from..to {
         if n == limit {
             return Columns { at: i, count: n };
         }
         n = put_byte(bytes, n, text[i]);
-        i += 1;
     }
-    Columns { at: i, count: n }
+    Columns { at: to, count: n }
 }
 
 // How many of the first n bytes are left without trailing blanks.
@@ -128,12 +120,10 @@ pub fn trim_blanks(bytes: &[u8], n: usize) -> usize
     requires { n ≤ length bytes.now }
     ensures { TrimTold bytes.now n result }
 {
-    let mut i = n;
-    while i > 0 {
-        if bytes[i - 1] != b' ' {
-            return i;
+    for i in (0..n).rev() {
+        if bytes[i] != b' ' {
+            return i + 1;
         }
-        i -= 1;
     }
-    i
+    0
 }

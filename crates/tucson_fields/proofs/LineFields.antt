@@ -1,9 +1,9 @@
 -- A strict line's numbers: what each field adds to what is kept of those before it, and where they stand in the line.
-use mathlib.Core.Path.{◌≡◌, refl, sym, ◌∙◌, ap, ap₂}
-use mathlib.Core.Bool.{Bool, true, false, cond, ◌&&◌, ◌||◌, not, and_assoc, and-true as and-true-right, or_assoc, or-false as or-none}
+use mathlib.Core.Path.{◌≡◌, refl, sym, ◌∙◌, ap}
+use mathlib.Core.Bool.{Bool, true, false, ◌&&◌, ◌||◌, and_assoc, and-true as and-true-right, or_assoc, or-false as or-none}
 use mathlib.Core.List.{List, [], ◌∷◌, ◌++◌, drop_last}
 use mathlib.Core.Option.{Option, some, none}
-use Prim.Native.Nat.{ℕ, zero, suc, ◌+◌, ◌*◌, ◌-◌, ◌/◌, ◌<◌, ◌≤◌}
+use Prim.Native.Nat.{ℕ, suc, ◌+◌, ◌*◌, ◌-◌, ◌<◌, ◌≤◌}
 use native.Mathlib.Omega.{arith}
 use lib.IntN.{ℤ, pos, nat_abs}
 use lib.ListN.{length, take, drop}
@@ -21,9 +21,8 @@ use Rattle.spec_tucson.specs.Writing.{all_widths}
 use Rattle.spec_tucson.specs.StrictLine.{is_some, is_strict}
 use Rattle.spec_tucson.specs.CleanSeries.{any999}
 use Rattle.tucson_lines.proofs.Fields.{fields-first}
-use Rattle.tucson_lines.proofs.GoodLines.{Columns, columns-parts, fits-parts, columns-small}
+use Rattle.tucson_lines.proofs.GoodLines.{columns-parts, fits-parts, columns-small}
 use Rattle.tucson_lines.proofs.LineNumerals.{behind, fields-behind, last-behind, front-behind, fields-count}
-use Rattle.tucson_fields.specs.Machine.{FrontOf}
 
 -- ---- the fields one after another
 

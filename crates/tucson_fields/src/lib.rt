@@ -7,7 +7,6 @@ ghost use Rattle.spec_tucson.specs.StrictLine.{is_strict};
 ghost use Rattle.tucson_fields.specs.Machine.{FrontTold, FactsOf};
 
 use base_outcome::limits;
-use base_text::numeral::Field;
 use tucson_lines::units;
 
 // The year, how many fields there are, whether the fields but the last are widths, whether all of them are at most 9,999, whether 999
@@ -38,31 +37,23 @@ fn fields_before(line: &[u8], n: usize) -> FrontFacts
     let mut widths = true;
     let mut small = true;
     let mut nine = false;
-    let mut at = limits::HEAD_COLUMNS;
-    let mut left = n;
-    while left > 0 {
-        let field = tucson_lines::numeral(line, at, at + limits::FIELD_COLUMNS);
-        match field {
-            Field::Bad => {
-                return FrontFacts {
-                    widths: false,
-                    small: false,
-                    nine: false,
-                };
-            }
-            Field::Numeral(z) => {
-                widths = tucson_lines::both(widths, tucson_lines::is_width(z));
-                small = tucson_lines::both(small, z <= units::HUNDREDTHS_LIMIT);
-                nine = tucson_lines::either(nine, tucson_lines::same(z, units::HUNDREDTHS));
-                at += limits::FIELD_COLUMNS;
-                left -= 1;
-            }
-        }
+    for k in 0..n {
+        let at = limits::HEAD_COLUMNS + k * limits::FIELD_COLUMNS;
+        let Some(z) = tucson_lines::numeral(line, at, at + limits::FIELD_COLUMNS) else {
+            return FrontFacts {
+                widths: false,
+                small: false,
+                nine: false,
+            };
+        };
+        widths = tucson_lines::both(widths, tucson_lines::is_width(z));
+        small = tucson_lines::both(small, z <= units::HUNDREDTHS_LIMIT);
+        nine = tucson_lines::either(nine, tucson_lines::same(z, units::HUNDREDTHS));
     }
     FrontFacts {
-        widths: widths,
-        small: small,
-        nine: nine,
+        widths,
+        small,
+        nine,
     }
 }
 
@@ -85,23 +76,19 @@ pub fn numbers(line: &[u8]) -> Facts
 {
     let end = line.len();
     let n = (end - limits::HEAD_COLUMNS) / limits::FIELD_COLUMNS;
-    let Field::Numeral(year) = tucson_lines::numeral(
-        line,
-        limits::NAME_COLUMNS,
-        limits::HEAD_COLUMNS,
-    ) else {
+    let Some(year) = tucson_lines::numeral(line, limits::NAME_COLUMNS, limits::HEAD_COLUMNS) else {
         return nothing();
     };
-    let Field::Numeral(last) = tucson_lines::numeral(line, end - limits::FIELD_COLUMNS, end) else {
+    let Some(last) = tucson_lines::numeral(line, end - limits::FIELD_COLUMNS, end) else {
         return nothing();
     };
     let others = fields_before(line, n - 1);
     Facts {
-        year: year,
+        year,
         count: n,
         widths: others.widths,
         small: others.small,
         nine: others.nine,
-        last: last,
+        last,
     }
 }

@@ -1,42 +1,29 @@
 -- A file byte by byte: what the byte at an index says of all from it on.
 use mathlib.Core.Path.{◌≡◌, refl, sym, ◌∙◌, ap, ap₂}
 use mathlib.Core.Bool.{Bool, true, false, cond, ◌&&◌, ◌||◌, not}
-use mathlib.Core.List.{List, [], ◌∷◌}
-use mathlib.Core.Option.{Option, some, none}
-use Prim.Native.Nat.{ℕ, suc, ◌+◌, ◌<◌, ◌≤◌}
+use mathlib.Core.List.{[], ◌∷◌}
+use mathlib.Core.Option.{some, none}
+use Prim.Native.Nat.{ℕ, suc, ◌+◌, ◌-◌, ◌<◌, ◌≤◌}
 use native.Mathlib.Omega.{arith}
 use native.Mathlib.Numerals.{add-one}
 use Rattle.base_exact.proofs.Decide.{true_not_false, or-false}
 use borrow.Author.Tests.{ne_eqb, leb-false}
 use lib.Dec.{eqb, leb}
-use lib.ListN.{length, take, drop, get_or}
-use lib.Seq.{slice, drop-cons, drop-length, take-length}
+use lib.ListN.{length, take, drop, get_or, length-drop}
+use lib.Seq.{slice, drop-cons, drop-length, take_all}
 use Rattle.base_text.specs.Bytes.{Text, newline, index_where, index_of, begins_with}
 use Rattle.base_text.proofs.Slice.{slice_all}
-use Rattle.spec_tucson.specs.FileText.{substitute, is_padding, all_padding, is_fault, line_after, fault_line, is_marked, unmarked, byte_order_mark}
+use Rattle.spec_tucson.specs.FileText.{substitute, all_padding, is_fault, line_after, fault_line, is_marked, unmarked, byte_order_mark}
 use Rattle.tucson_file.specs.Machine.{fault_at, is_special, any_special}
-
--- ---- padding
-
-padding_cons : (t : Text) (i : ℕ) → i < length t → all_padding (drop i t) ≡ (is_padding (get_or t i 0) && all_padding (drop (suc i) t))
-unfolding all_padding
-padding_cons t i h = ap all_padding (drop-cons t i 0 h)
-
-pub padding-next : (t : Text) (i : ℕ) → i < length t → is_padding (get_or t i 0) ≡ true → all_padding (drop i t) ≡ all_padding (drop (i + 1) t)
-padding-next t i h e =
-    padding_cons t i h ∙ ap (λ (b : Bool). b && all_padding (drop (suc i) t)) e ∙ ap (λ (n : ℕ). all_padding (drop n t)) (sym (add-one i))
-
-pub padding_other : (t : Text) (i : ℕ) → i < length t → is_padding (get_or t i 0) ≡ false → all_padding (drop i t) ≡ false
-padding_other t i h e = padding_cons t i h ∙ ap (λ (b : Bool). b && all_padding (drop (suc i) t)) e
-
-pub padding_end : (t : Text) (i : ℕ) → i ≡ length t → all_padding (drop i t) ≡ true
-unfolding all_padding
-padding_end t i e = ap (λ (n : ℕ). all_padding (drop n t)) e ∙ ap all_padding (drop-length t)
 
 -- ---- what stands from an index on
 
 pub rest_is : (t : Text) (i : ℕ) → slice i (length t) t ≡ drop i t
 rest_is t i = slice_all i t
+
+-- as the machine lends it
+pub rest_lent : (t : Text) (i : ℕ) → take (length t - i) (drop i t) ≡ drop i t
+rest_lent t i = take_all (length t - i) (drop i t) (omega (arith, length-drop i t))
 
 -- ---- the line of a fault
 

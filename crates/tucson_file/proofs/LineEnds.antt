@@ -1,9 +1,9 @@
 -- The bytes that end a line, counted one after another, and the lines by them.
 use mathlib.Core.Path.{◌≡◌, refl, sym, ◌∙◌, ap}
 use mathlib.Core.Bool.{Bool, true, false, cond}
-use mathlib.Core.List.{List, [], ◌∷◌}
+use mathlib.Core.List.{List, [], ◌∷◌, ◌++◌}
 use mathlib.Core.Option.{Option, some, none}
-use Prim.Native.Nat.{ℕ, zero, suc, ◌+◌, ◌-◌, ◌<◌, ◌≤◌}
+use Prim.Native.Nat.{ℕ, suc, ◌+◌, ◌-◌, ◌<◌, ◌≤◌}
 use native.Mathlib.Numerals.{add-one}
 use native.Mathlib.Omega.{arith}
 use lib.Dec.{eqb}
@@ -29,6 +29,11 @@ ends_next t i h = ap end_count (drop-cons t i 0 h) ∙ ap (λ (n : ℕ). end_of 
 pub ends-none : (t : Text) (i : ℕ) → length t ≤ i → end_count (drop i t) ≡ 0
 unfolding end_count
 ends-none t i h = ap end_count (drop_of_length-le t h)
+
+pub ends_append : (t u : Text) → end_count (t ++ u) ≡ end_count t + end_count u
+unfolding end_count
+ends_append [] u = omega arith
+ends_append (c ∷ t) u = omega (arith, ends_append t u)
 
 -- ---- the last byte
 pub last_none : (t : Text) → length t ≡ 0 → last_ends t ≡ true

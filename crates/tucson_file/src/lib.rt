@@ -10,8 +10,6 @@ ghost use Rattle.spec_tucson.specs.FileText;
 ghost use Rattle.tucson_file.specs.Machine.{fault_at, is_special, any_special, FaultAsks, StartIs};
 ghost use Rattle.tucson_file.specs.Machine.{end_of, end_count, last_ends, EndsAsk, EndsTold};
 
-use base_outcome::Found;
-
 pub const SUBSTITUTE: u8 = 26;
 
 // The bytes of a text whose ends of lines are counted at once.
@@ -44,14 +42,7 @@ fn all_padding(text: &[u8], from: usize) -> bool
     requires { from ≤ length text.now }
     ensures { result ≡ all_padding (drop from text.now) }
 {
-    let mut i = from;
-    while i < text.len() {
-        if !is_padding(text[i]) {
-            return false;
-        }
-        i += 1;
-    }
-    true
+    text[from..].iter().all(|byte| is_padding(*byte))
 }
 
 // Whether the byte at the index, which is not 26, is one that no text has.
@@ -100,36 +91,32 @@ fn any_special(text: &[u8], from: usize) -> bool
     ensures { result ≡ any_special (drop from text.now) }
 {
     let mut any = false;
-    let mut i = from;
-    while i < text.len() {
-        any = tucson_lines::either(any, is_special(text[i]));
-        i += 1;
+    for byte in &text[from..] {
+        any = tucson_lines::either(any, is_special(*byte));
     }
     any
 }
 
 // The line of the first byte at fault from the index on.
-fn fault_line(text: &[u8], from: usize) -> Found
+fn fault_line(text: &[u8], from: usize) -> Option<usize>
     requires { FaultAsks from text.now }
     ensures { result ≡ found (FileText.fault_line 1 (drop from text.now)) }
 {
-    let mut i = from;
     let mut line = 1;
-    while i < text.len() {
+    for i in from..text.len() {
         let byte = text[i];
         if byte == SUBSTITUTE {
             if all_padding(text, i + 1) {
-                return Found::Nothing;
+                return None;
             }
-            return Found::At(line);
+            return Some(line);
         }
         if is_fault(text, i) {
-            return Found::At(line);
+            return Some(line);
         }
         line = line_after(byte, line);
-        i += 1;
     }
-    Found::Nothing
+    None
 }
 
 // The line after a byte of this line.
@@ -171,15 +158,15 @@ pub fn start(text: &[u8]) -> usize
 }
 
 // The line of code 21, if the file has a byte at fault.
-pub fn fault(text: &[u8]) -> Found
+pub fn fault(text: &[u8]) -> Option<usize>
     ensures { result ≡ found (text_fault text.now) }
 {
     if is_wide(text) {
-        return Found::At(1);
+        return Some(1);
     }
     let from = start(text);
     if !any_special(text, from) {
-        return Found::Nothing;
+        return None;
     }
     fault_line(text, from)
 }
@@ -211,10 +198,8 @@ fn block_ends(text: &[u8], from: usize, to: usize) -> u8
     ensures { EndsTold text.now from to result }
 {
     let mut count = 0;
-    let mut i = from;
-    while i < to {
-        count = count + is_end(text[i]);
-        i += 1;
+    for byte in &text[from..to] {
+        count += is_end(*byte);
     }
     count
 }
@@ -225,12 +210,10 @@ pub fn ends(text: &[u8]) -> usize
     ensures upper_bound { result ≤ length text.now }
 {
     let mut count = 0;
-    let mut from = 0;
-    while text.len() - from > BLOCK {
-        count += block_ends(text, from, from + BLOCK) as usize;
-        from += BLOCK;
+    for block in text.chunks(BLOCK) {
+        count += block_ends(block, 0, block.len()) as usize;
     }
-    count + block_ends(text, from, text.len()) as usize
+    count
 }
 
 // Whether the last byte of the text ends a line, or there is none.

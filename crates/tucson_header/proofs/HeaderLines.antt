@@ -1,13 +1,13 @@
 -- The lines that are looked at for a header: those that are not blank, and the first of them that can be read as a strict line.
 use mathlib.Core.Path.{◌≡◌, refl, sym, ◌∙◌, ap, ap₂}
-use mathlib.Core.Bool.{Bool, true, false, cond, ◌&&◌, not}
+use mathlib.Core.Bool.{Bool, true, false, cond, ◌&&◌}
 use mathlib.Core.List.{List, [], ◌∷◌}
 use mathlib.Core.Option.{Option, some, none}
 use Prim.Native.Nat.{ℕ, zero, suc, ◌+◌, ◌<◌, ◌≤◌}
 use native.Mathlib.Numerals.{add-one}
 use native.Mathlib.Omega.{arith}
 use borrow.Author.Tests.{lt-ltb, le-ltb, le-leb, lt-leb}
-use lib.Dec.{leb, ltb}
+use lib.Dec.{ltb}
 use lib.ListN.{length, drop, drop_of_length-le}
 use lib.Seq.{slice}
 use Rattle.base_outcome.specs.Outcome.{Outcome, answer, refusal, refuse, capped}
@@ -17,10 +17,8 @@ use Rattle.spec_tucson.specs.Line.{lines_of}
 use Rattle.spec_tucson.specs.Shown.{is_blank_line}
 use Rattle.spec_tucson.specs.KeptLines.{Numbered, numbered, unblank, reads_strictly, captions, guessed_header, strict_in_header, unless_strict, named_header}
 use Rattle.tucson_lines.specs.Machine.{LineEnd, line_found}
-use Rattle.tucson_lines.proofs.Lines.{end_within, lines_step}
+use Rattle.tucson_lines.proofs.Lines.{lines_step}
 use Rattle.tucson_lines.proofs.Found.{line_some}
-use Rattle.tucson_header.specs.Machine.{header_answer}
-use Rattle.tucson_header.specs.declared.HeaderFound.TheVariants as header-cases
 
 -- ---- the lines that are not blank
 module _ (body : Text) (from end : ℕ) (at : LineEnd body from end) (more : from < length body) (number : ℕ) where
@@ -60,8 +58,8 @@ named_start h raws =
     let e : length raws ≡ 0 + length raws = omega arith in
     ap (λ (n : ℕ). cond (ltb n h) (refuse 26 0) (unless_strict h (strict_in_header h (unblank 1 raws)))) e
 
-pub named-short : (h done found : ℕ) → done < h → header_answer (header-cases.Refused 0) ≡ named_from h done found []
-unfolding named_from header_answer capped
+pub named-short : (h done found : ℕ) → done < h → refusal 26 0 ≡ named_from h done found []
+unfolding named_from capped
 named-short h done found less =
     sym (ap (λ (b : Bool). cond b (refuse 26 0) (unless_strict h (or_else (line_found found) (strict_in_header h (unblank (suc done) []))))) (lt-ltb (done + 0) h (omega arith)))
 
@@ -109,16 +107,16 @@ named_done h found raws =
     ap₂ (λ (b : Bool) (o : Option ℕ). cond b (refuse 26 0) (unless_strict h (or_else (line_found found) o))) (le-ltb (h + length raws) h (omega arith))
     (none_above h (suc h) raws (omega arith))
 
-pub named_refused : (h done found : ℕ) (raws : List Text) → done ≡ h → (found ≡ 0 → ⊥) → header_answer (header-cases.Refused (capped found)) ≡ named_from h done found raws
-unfolding header_answer line_found
+pub named_refused : (h done found : ℕ) (raws : List Text) → done ≡ h → (found ≡ 0 → ⊥) → refusal 26 (capped found) ≡ named_from h done found raws
+unfolding line_found
 named_refused h done found raws e f = go found f ∙ sym (ap (λ (n : ℕ). named_from h n found raws) e ∙ named_done h found raws)
   where
     go : (n : ℕ) → (n ≡ 0 → ⊥) → refusal 26 (capped n) ≡ unless_strict h (or_else (line_found n) none)
     go zero f = absurd (f refl)
     go (suc n) f = refl
 
-pub named-ends : (h done found : ℕ) (raws : List Text) → done ≡ h → found ≡ 0 → header_answer (header-cases.Ends h) ≡ named_from h done found raws
-unfolding header_answer line_found
+pub named-ends : (h done found : ℕ) (raws : List Text) → done ≡ h → found ≡ 0 → answer h ≡ named_from h done found raws
+unfolding line_found
 named-ends h done found raws e f =
     sym (ap₂ (λ (n m : ℕ). named_from h n m raws) e f ∙ named_done h 0 raws)
 

@@ -1,24 +1,14 @@
--- The machine's form of a header and of the lines that are looked at for it.
-use Rattle.std.specs.Prelude.{List, [], ◌∷◌, cond, ◌≡◌, ℕ, suc, ◌+◌, ◌<◌, ◌≤◌, length, drop}
+-- The machine's form of the lines that are looked at for a header.
+use Rattle.std.specs.Prelude.{Option, Some, None, [], ◌∷◌, cond, ◌≡◌, ℕ, suc, ◌+◌, ◌<◌, ◌≤◌, length, drop}
 use Rattle.std.proofs.Math.Option.{some, none}
 use Rattle.std.proofs.Math.Seq.{slice}
-use Rattle.base_outcome.specs.Codes as codes
-use Rattle.base_outcome.specs.Outcome.{Outcome, answer, refusal}
 use Rattle.base_outcome.specs.Search.{or_else}
 use Rattle.base_text.specs.Bytes.{Text}
 use Rattle.spec_tucson.specs.Line.{lines_of}
 use Rattle.spec_tucson.specs.Shown.{is_blank_line}
 use Rattle.spec_tucson.specs.KeptLines.{numbered, unblank, reads_strictly}
 use Rattle.tucson_lines.specs.Machine.{LineEnd, line_found}
-use Rattle.tucson_header.specs.declared.HeaderFound.{HeaderFound}
-use Rattle.tucson_header.specs.declared.HeaderFound.TheVariants as header-cases
 use Rattle.tucson_header.specs.declared.Line.{Line}
-use Rattle.tucson_header.specs.declared.Line.TheVariants as line-cases
-
--- The specification's words for what is found.
-unfoldable pub header_answer : HeaderFound → Outcome ℕ
-header_answer (header-cases.Ends h) = answer h
-header_answer (header-cases.Refused place) = refusal codes.file_header place
 
 -- A line's number is no larger than what stands before it.
 pub record NumberFits (body : Text) (from number : ℕ) : Type 0 where
@@ -33,9 +23,9 @@ pub record LineAt (body : Text) (start first from end number : ℕ) : Type 0 whe
   pub lines : unblank first (lines_of (drop start body)) ≡ numbered number (slice from (end + 1) body) ∷ unblank (suc number)
       (lines_of (drop (end + 1) body))
 
-abbrev pub LineTold : Text → ℕ → ℕ → Line → Type 0
-LineTold body start first (line-cases.At from end number) = LineAt body start first from end number
-LineTold body start first line-cases.Over = unblank first (lines_of (drop start body)) ≡ []
+abbrev pub LineTold : Text → ℕ → ℕ → Option Line → Type 0
+LineTold body start first (Some l) = LineAt body start first l.from l.end l.number
+LineTold body start first None = unblank first (lines_of (drop start body)) ≡ []
 
 -- Two lines, and the number of one in a header.
 pub record CaptionAsks (body : Text) (first past k from end : ℕ) : Type 0 where

@@ -1,18 +1,20 @@
 -- The tests of a closing, case by case, and what they leave of the first faults.
 use mathlib.Core.Path.{◌≡◌, refl, sym, ◌∙◌, ap, ap₂}
-use mathlib.Core.Bool.{Bool, true, false, cond, ◌&&◌, ◌||◌, not}
+use mathlib.Core.Bool.{Bool, true, false, cond, ◌&&◌, not}
 use mathlib.Core.Option.{Option, some, none}
-use Prim.Native.Nat.{ℕ, zero, suc, ◌<◌, ◌≤◌}
-use native.Mathlib.Omega.{arith}
+use Prim.Native.Nat.{ℕ, zero, suc}
 use borrow.Author.Tests.{eq-eqb, ne_eqb}
 use lib.Dec.{eqb}
 use lib.IntN.{ℤ}
-use Rattle.base_exact.proofs.Decide.{and-false}
+use Rattle.std.specs.Prelude.{Some, None}
+use Rattle.std.specs.Prelude as machine
+use Rattle.std.specs.Option.{is_some}
+use Rattle.base_exact.proofs.Decide.{and-false, clash}
 use Rattle.spec_tucson.specs.Line.{same, thousandths}
 use Rattle.spec_tucson.specs.Series.{hundredths}
 use Rattle.spec_tucson.specs.CleanSeries.{unknown_unit, unit_not_said, hundredths_said, closing_of, is_unit_fault, closing_after, Fault, fault, if_hundredths, or_fault}
 use Rattle.tucson_lines.specs.Machine.{line_found}
-use Rattle.tucson_judge.specs.Judging.{fault_at, mark_found, closing_fault_of, last_after}
+use Rattle.tucson_judge.specs.Judging.{mark_found, closing_fault_of, last_after}
 use Rattle.tucson_judge.specs.declared.Mark.{Mark}
 
 -- ---- the unit
@@ -60,30 +62,24 @@ unfolding last_after
 last-closed unit c goes e = ap (λ (b : Bool). cond b c (closing_after unit c)) e
 
 -- ---- the first of codes 24 and 25
-pub mark-kept : (m : Mark) (o : Option Fault) → (m.line ≡ 0 → ⊥) → mark_found m ≡ or_fault (mark_found m) o
+pub mark-kept : (m : machine.Option Mark) (o : Option Fault) → is_some m ≡ true → mark_found m ≡ or_fault (mark_found m) o
 unfolding mark_found
-mark-kept m o h = go m.line h
-  where
-    go : (n : ℕ) → (n ≡ 0 → ⊥) → fault_at m.code n ≡ or_fault (fault_at m.code n) o
-    go zero h = absurd (h refl)
-    go (suc n) h = refl
+mark-kept None o h = clash cc
+mark-kept (Some m) o h = refl
 
-no_mark : (m : Mark) (o : Option Fault) → m.line ≡ 0 → or_fault (mark_found m) o ≡ o
+no_mark : (m : machine.Option Mark) (o : Option Fault) → is_some m ≡ false → or_fault (mark_found m) o ≡ o
 unfolding mark_found
-no_mark m o e = ap (λ (n : ℕ). or_fault (fault_at m.code n) o) e
+no_mark None o h = refl
+no_mark (Some m) o h = clash cc
 
-module _ (m : Mark) (unit : ℕ) (seen number : ℕ) (last : ℤ) (none_so_far : m.line ≡ 0) where
-  pub mark_unit : 1 ≤ number → is_unit_fault unit last ≡ true
-      → mark_found (record { code = 24; line = number }) ≡ or_fault (mark_found m) (closing_fault_of unit (line_found seen) number last)
+module _ (m : machine.Option Mark) (unit : ℕ) (seen number : ℕ) (last : ℤ) (none_so_far : is_some m ≡ false) where
+  pub mark_unit : is_unit_fault unit last ≡ true
+      → mark_found (Some (record { code = 24; line = number }))
+      ≡ or_fault (mark_found m) (closing_fault_of unit (line_found seen) number last)
   unfolding closing_fault_of mark_found
-  mark_unit h e =
-      numbered number h
-      ∙ sym (no_mark m (closing_fault_of unit (line_found seen) number last) none_so_far
+  mark_unit e =
+      sym (no_mark m (closing_fault_of unit (line_found seen) number last) none_so_far
       ∙ ap (λ (b : Bool). cond b (some (fault 24 number)) (if_hundredths (closing_after unit last) (line_found seen))) e)
-    where
-      numbered : (n : ℕ) → 1 ≤ n → fault_at 24 n ≡ some (fault 24 n)
-      numbered zero h = absurd (omega arith)
-      numbered (suc n) h = refl
 
   module _ (right-unit : is_unit_fault unit last ≡ false) where
     no_unit_fault : or_fault (mark_found m) (closing_fault_of unit (line_found seen) number last) ≡ if_hundredths (closing_after unit last) (line_found seen)
@@ -92,17 +88,22 @@ module _ (m : Mark) (unit : ℕ) (seen number : ℕ) (last : ℤ) (none_so_far :
         no_mark m (closing_fault_of unit (line_found seen) number last) none_so_far
         ∙ ap (λ (b : Bool). cond b (some (fault 24 number)) (if_hundredths (closing_after unit last) (line_found seen))) right-unit
 
-    pub mark-closed : same (closing_after unit last) hundredths ≡ true
-        → mark_found (record { code = 25; line = seen }) ≡ or_fault (mark_found m) (closing_fault_of unit (line_found seen) number last)
+    pub mark_unseen : seen ≡ 0 → mark_found None ≡ or_fault (mark_found m) (closing_fault_of unit (line_found seen) number last)
     unfolding mark_found line_found
-    mark-closed e = go seen ∙ sym no_unit_fault
+    mark_unseen e = sym (no_unit_fault ∙ ap (λ (n : ℕ). if_hundredths (closing_after unit last) (line_found n)) e)
+
+    pub mark-closed : (seen ≡ 0 → ⊥) → same (closing_after unit last) hundredths ≡ true
+        → mark_found (Some (record { code = 25; line = seen }))
+        ≡ or_fault (mark_found m) (closing_fault_of unit (line_found seen) number last)
+    unfolding mark_found line_found
+    mark-closed h e = go seen h ∙ sym no_unit_fault
       where
-        go : (n : ℕ) → fault_at 25 n ≡ if_hundredths (closing_after unit last) (line_found n)
-        go zero = refl
-        go (suc n) = sym (ap (λ (b : Bool). cond b (some (fault 25 (suc n))) none) e)
+        go : (n : ℕ) → (n ≡ 0 → ⊥) → some (fault 25 n) ≡ if_hundredths (closing_after unit last) (line_found n)
+        go zero h = absurd (h refl)
+        go (suc n) h = sym (ap (λ (b : Bool). cond b (some (fault 25 (suc n))) none) e)
 
     pub mark-none : same (closing_after unit last) hundredths ≡ false
-        → mark_found (record { code = 0; line = 0 }) ≡ or_fault (mark_found m) (closing_fault_of unit (line_found seen) number last)
+        → mark_found None ≡ or_fault (mark_found m) (closing_fault_of unit (line_found seen) number last)
     unfolding mark_found line_found
     mark-none e = go seen ∙ sym no_unit_fault
       where

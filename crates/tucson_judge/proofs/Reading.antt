@@ -1,17 +1,16 @@
 -- The reader's step: a line by its numbers, and what the reader ends with behind it.
-use mathlib.Core.Path.{◌≡◌, refl, sym, ◌∙◌, ap, ap₂}
-use mathlib.Core.Bool.{Bool, true, false, cond, ◌&&◌, ◌||◌, not}
+use mathlib.Core.Path.{◌≡◌, refl, ◌∙◌, ap, ap₂}
+use mathlib.Core.Bool.{Bool, true, false, cond, ◌&&◌, ◌||◌}
 use mathlib.Core.List.{List, [], ◌∷◌, ◌++◌, drop_last}
 use mathlib.Core.Option.{Option, some, none}
-use Prim.Native.Nat.{ℕ, zero, suc, ◌+◌, ◌-◌, ◌<◌, ◌≤◌}
+use Prim.Native.Nat.{ℕ, ◌+◌, ◌≤◌}
 use native.Mathlib.Omega.{arith}
+use Rattle.std.specs.Prelude.{Ok, Err, Some}
 use lib.Dec.{leb}
-use lib.IntN.{ℤ, pos}
+use lib.IntN.{ℤ}
 use lib.ListN.{length}
-use Rattle.base_outcome.specs.Outcome.{Outcome, answer, refusal, capped, ◌then◌, with_answer}
-use Rattle.base_outcome.specs.Machine.{legality}
-use Rattle.base_outcome.specs.declared.Legality.{Legality}
-use Rattle.base_outcome.specs.declared.Legality.TheVariants as legalities
+use Rattle.base_outcome.specs.Outcome.{Outcome, answer, refusal, ◌then◌, with_answer}
+use Rattle.base_outcome.specs.Machine.{passed}
 use Rattle.base_text.specs.Bytes.{Text}
 use Rattle.spec_tucson.specs.Line.{Line, decade, thousandths, line_of, line_in_columns, year_in_decade, within_decade, same, is_width, fields_allowed, if_allowed, good_line}
 use Rattle.spec_tucson.specs.Series.{Series, all_hundredths}
@@ -19,13 +18,11 @@ use Rattle.spec_tucson.specs.TextReading.{Begun, Step, opened, closed, after, la
 use Rattle.spec_tucson.specs.Writing.{all_widths}
 use Rattle.spec_tucson.specs.StrictLine.{Kept}
 use Rattle.spec_tucson.specs.CleanSeries.{continues, reclosed, closed_lines, with_end, read_kept}
-use Rattle.tucson_lines.specs.Machine.{line_told}
-use Rattle.tucson_lines.specs.declared.LineAnswer.TheVariants.{Good}
+use Rattle.tucson_lines.specs.Machine.{numbers, line_told}
 use Rattle.tucson_lines.proofs.LineNumerals.{allowed_behind}
-use Rattle.tucson_scan.specs.Scan.{Tracks, Told}
+use Rattle.tucson_scan.specs.Scan.{Told}
 use Rattle.tucson_scan.specs.declared.Passed.{Passed}
-use Rattle.tucson_scan.specs.declared.Passed.TheVariants as passed-cases
-use Rattle.tucson_judge.specs.Judging.{last_after, ReadsAs, TracksReader, refused_or, reader_told, ReaderBehind}
+use Rattle.tucson_judge.specs.Judging.{Verdict, last_after, ReadsAs, reader_told, ReaderBehind}
 use Rattle.tucson_judge.specs.declared.Reader.{Reader}
 use Rattle.tucson_fields.specs.Machine.{NumbersOf}
 use Rattle.tucson_fields.specs.declared.Facts.{Facts}
@@ -58,12 +55,12 @@ module _ (t : Text) (l : Line) (f : Facts) (last : ℤ) (is : line_of t ≡ some
   pub bad-line : test ≡ false → good_line true t ≡ none
   bad-line e = good_by_test ∙ ap (λ (b : Bool). cond b (some l) none) e
 
-  pub good-line : test ≡ true → line_told (good_line true t) ≡ Good f.year f.count f.small last
+  pub good-line : test ≡ true → line_told (good_line true t) ≡ Some (numbers f.year f.count f.small last)
   unfolding line_told
   good-line e =
       ap line_told (good_by_test ∙ ap (λ (b : Bool). cond b (some l) none) e)
-      ∙ ap₂ (λ (z : ℤ) (n : ℕ). Good z n (all_hundredths (drop_last l.fields)) (last_field l.fields)) r.year_is r.count_is
-      ∙ ap₂ (λ (x : Bool) (z : ℤ). Good f.year f.count x z) r.small_are r.last_is
+      ∙ ap₂ (λ (z : ℤ) (n : ℕ). Some (numbers z n (all_hundredths (drop_last l.fields)) (last_field l.fields))) r.year_is r.count_is
+      ∙ ap₂ (λ (x : Bool) (z : ℤ). Some (numbers f.year f.count x z)) r.small_are r.last_is
 
 -- the line with the closing that the unit gives
 pub record Reads (t : Text) (f : Facts) (last : ℤ) : Type 0 where
@@ -87,71 +84,56 @@ reads-reclosed unit goes t l f e n =
       };
     }
 
--- ---- a refusal stays
-pub refused_stays : (r : Reader) (b c : Option Begun) (ks ls : List Kept) → (r.line ≡ 0 → ⊥) → reader_told r b ks ≡ reader_told r c ls
-unfolding reader_told
-refused_stays r b c ks ls h = go r.line h
-  where
-    go : (n : ℕ) → (n ≡ 0 → ⊥) → refused_or r.code n (legality (read_kept b ks)) ≡ refused_or r.code n (legality (read_kept c ls))
-    go zero h = absurd (h refl)
-    go (suc n) h = refl
-
 -- ---- the step
-legal_series : (s : Series) (o : Outcome (List Series)) → legality (with_answer (λ ss. s ∷ ss) o) ≡ legality o
-unfolding legality
+legal_series : (s : Series) (o : Outcome (List Series)) → passed (with_answer (λ ss. s ∷ ss) o) ≡ passed o
+unfolding passed
 legal_series s (answer ss) = refl
 legal_series s (refusal code place) = refl
 
-module _ (unit : ℕ) (goes : Bool) (k : Kept) (b : Option Begun) (r : Reader) (going : r.line ≡ 0) where
+module _ (unit : ℕ) (goes : Bool) (k : Kept) (b : Option Begun) (r : Reader) where
   abbrev step : Outcome Step
   step = read_line k.line b goes (with_end (reclosed unit goes k.text))
 
-  abbrev ends : Outcome Step → List Kept → Legality
-  ends o ks = legality (o then after (λ c. read_kept c (closed_lines unit ks)))
+  abbrev ends : Outcome Step → List Kept → Verdict
+  ends o ks = passed (o then after (λ c. read_kept c (closed_lines unit ks)))
 
-  by_step : (ks : List Kept) → continues k ks ≡ goes → reader_told r b (closed_lines unit (k ∷ ks)) ≡ ends step ks
+  by_step : (ks : List Kept) → continues k ks ≡ goes → reader_told (Ok r) b (closed_lines unit (k ∷ ks)) ≡ ends step ks
   unfolding reader_told read_kept closed_lines
   by_step ks e =
-      ap (λ (n : ℕ). refused_or r.code n (legality (read_kept b (closed_lines unit (k ∷ ks))))) going
-      ∙ ap (λ (m : Bool). ends (read_line k.line b m (with_end (reclosed unit (continues k ks) k.text))) ks)
+      ap (λ (m : Bool). ends (read_line k.line b m (with_end (reclosed unit (continues k ks) k.text))) ks)
       (closed-continues unit k ks (reclosed unit (continues k ks) k.text) (reclosed-name unit (continues k ks) k.text))
       ∙ ap (λ (m : Bool). ends (read_line k.line b m (with_end (reclosed unit m k.text))) ks) e
 
-  pub reader_on : (more : Bool) (n : ℕ) (next : ℤ) (small : Bool) → Told k.line b step (passed-cases.On more n next small)
-      → ReaderBehind unit goes k b r (record { code = 0; line = 0; begun = more; next = next; small = small })
+  pub reader_on : (p : Passed) → Told k.line b step (Ok p)
+      → ReaderBehind unit goes k b (Ok r) (Ok (record { begun = p.more; next = p.next; small = p.small }))
   unfolding reader_told
-  reader_on more n next small told = go step refl told
+  reader_on p told = go step refl told
     where
-      go : (o : Outcome Step) → step ≡ o → Told k.line b o (passed-cases.On more n next small)
-          → ReaderBehind unit goes k b r (record { code = 0; line = 0; begun = more; next = next; small = small })
+      go : (o : Outcome Step) → step ≡ o → Told k.line b o (Ok p)
+          → ReaderBehind unit goes k b (Ok r) (Ok (record { begun = p.more; next = p.next; small = p.small }))
       go (answer (opened c)) e h = record {
         begun-behind = some c;
-        tracks = λ z. h.0;
+        tracks = h.0;
         same_end = λ ks g. by_step ks g ∙ ap (λ (o : Outcome Step). ends o ks) e;
       }
       go (answer (closed s)) e h = record {
         begun-behind = none;
-        tracks = λ z. (h.over, h.none_large);
+        tracks = (h.over, h.none_large);
         same_end = λ ks g. by_step ks g ∙ ap (λ (o : Outcome Step). ends o ks) e ∙ legal_series s (read_kept none (closed_lines unit ks));
       }
       go (refusal code place) e h = absurd h
 
-  pub reader_refused : (code : ℕ) (next : ℤ) → 1 ≤ k.line → Told k.line b step (passed-cases.Refused code)
-      → ReaderBehind unit goes k b r (record { code = code; line = k.line; begun = false; next = next; small = true })
-  unfolding reader_told legality
-  reader_refused code next numbered told = go step refl told
+  pub reader_refused : (code : ℕ) → Told k.line b step (Err code)
+      → ReaderBehind unit goes k b (Ok r) (Err (record { code = code; line = k.line }))
+  unfolding reader_told passed
+  reader_refused code told = go step refl told
     where
-      at-line : (n : ℕ) (rest : Legality) → 1 ≤ n → legalities.Refused code (capped n) ≡ refused_or code n rest
-      at-line zero rest h = absurd (omega arith)
-      at-line (suc n) rest h = refl
-
-      go : (o : Outcome Step) → step ≡ o → Told k.line b o (passed-cases.Refused code)
-          → ReaderBehind unit goes k b r (record { code = code; line = k.line; begun = false; next = next; small = true })
+      go : (o : Outcome Step) → step ≡ o → Told k.line b o (Err code)
+          → ReaderBehind unit goes k b (Ok r) (Err (record { code = code; line = k.line }))
       go (answer (opened c)) e h = absurd h
       go (answer (closed s)) e h = absurd h
       go (refusal found at) e h = record {
         begun-behind = none;
-        tracks = λ z. absurd (omega arith);
-        same_end = λ ks g. by_step ks g ∙ ap (λ (o : Outcome Step). ends o ks) e
-            ∙ ap₂ legalities.Refused h.0 h.1 ∙ at-line k.line (legality (read_kept none (closed_lines unit ks))) numbered;
+        tracks = tt;
+        same_end = λ ks g. by_step ks g ∙ ap (λ (o : Outcome Step). ends o ks) e ∙ ap₂ refusal h.0 h.1;
       }

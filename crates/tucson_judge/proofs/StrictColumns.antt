@@ -4,24 +4,23 @@ use mathlib.Core.Path.{◌≡◌, refl, sym, ◌∙◌, ap, ap₂}
 use mathlib.Core.Bool.{Bool, true, false, cond, ◌&&◌, not}
 use mathlib.Core.List.{List, [], ◌∷◌, ◌++◌, drop_last}
 use mathlib.Core.Option.{Option, some, none, some-injective}
-use Prim.Native.Nat.{ℕ, zero, suc, ◌+◌, ◌*◌, ◌-◌, ◌/◌, ◌<◌, ◌≤◌}
+use Prim.Native.Nat.{ℕ, zero, suc, ◌+◌, ◌*◌, ◌-◌, ◌/◌, ◌≤◌}
 use native.Mathlib.Omega.{arith}
 use borrow.Author.Tests.{ne_eqb, eqb-true}
 use lib.Dec.{eqb, leb}
 use lib.IntN.{ℤ}
-use lib.ListN.{length, take, drop, length-append, length-take, length-drop, take-append-drop}
-use lib.Seq.{take-append-le, drop-append-le, drop-append-add, take_all, drop_at, drop-drop, length-take-le}
+use lib.ListN.{length, take, drop, length-append, length-drop, take-append-drop}
+use lib.Seq.{take-append-le, drop-append-le, take_all, drop_at, drop-drop}
 use Rattle.base_exact.proofs.Decide.{clash, and-true}
-use Rattle.base_text.specs.Bytes.{Text, newline, cut}
+use Rattle.base_text.specs.Bytes.{Text, newline}
 use Rattle.base_text.proofs.Lacking.{lacks, byte, byte-outside, lacks_append, numeral-lacks, cut-first}
 use Rattle.base_text.specs.Numeral.{numeral}
 use Rattle.spec_tucson.specs.Columns.{blank, in_columns}
 use Rattle.spec_tucson.specs.Line.{Line, name_columns, year_columns, head_columns, field_columns, decade, all_printable, all_blank, is_name, with_field}
 use Rattle.spec_tucson.specs.Line.{field_numerals, field_count, columns_fit, with_numerals, line_in_columns, of_cut, line_of}
-use Rattle.spec_tucson.specs.TextReading.{last_field}
 use Rattle.spec_tucson.specs.CleanSeries.{with_end}
-use Rattle.tucson_lines.proofs.GoodLines.{Columns, columns-parts, fits-parts}
-use Rattle.tucson_lines.proofs.LineNumerals.{behind, fields-behind, last-behind, front-behind, fields-count}
+use Rattle.tucson_lines.proofs.GoodLines.{columns-parts, fits-parts}
+use Rattle.tucson_lines.proofs.LineNumerals.{behind, fields-behind, front-behind}
 use Rattle.spec_tucson.proofs.Lines.{printable_lacks}
 
 -- ---- no byte 10

@@ -7,21 +7,21 @@ use Prim.Native.Nat.{ℕ, zero, suc, ◌≤◌}
 use native.Mathlib.Omega.{arith}
 use lib.IntN.{ℤ}
 use lib.ListN.{length}
-use Rattle.base_outcome.specs.Outcome.{capped, answer}
+use Rattle.base_outcome.specs.Outcome.{answer, refusal, capped}
 use Rattle.base_outcome.specs.Search.{or_else}
-use Rattle.base_outcome.specs.Machine.{legality}
-use Rattle.base_outcome.specs.declared.Legality.{Legality}
-use Rattle.base_outcome.specs.declared.Legality.TheVariants as legalities
+use Rattle.base_outcome.specs.Machine.{passed}
 use Rattle.spec_tucson.specs.Line.{Line, same, line_in_columns}
 use Rattle.spec_tucson.specs.Series.{hundredths}
 use Rattle.spec_tucson.specs.TextReading.{Begun, last_field}
 use Rattle.spec_tucson.specs.StrictLine.{Kept}
-use Rattle.spec_tucson.specs.CleanSeries.{continues, follows_its, fields_in, fields_of, runs_in, year_fault, any999, width_fields, seen999, Fault, fault, or_fault}
+use Rattle.spec_tucson.specs.CleanSeries.{continues, follows_its, fields_in, fields_of, runs_in, year_fault, any999, width_fields, seen999, Fault, or_fault}
 use Rattle.spec_tucson.specs.CleanSeries.{closing_fault, series_fault, closed_lines, read_kept}
 use Rattle.tucson_fields.specs.Machine.{NumbersOf}
+use Rattle.std.specs.Prelude.{Result, Ok, Err, Some, None}
+use Rattle.std.specs.Prelude as machine
 use Rattle.tucson_fields.specs.declared.Facts.{Facts}
 use Rattle.tucson_lines.specs.Machine.{line_found}
-use Rattle.tucson_judge.specs.Judging.{fault_at, mark_found, closing_fault_of, refused_or, reader_told, ReaderBehind, pick, verdict, Behind}
+use Rattle.tucson_judge.specs.Judging.{mark_found, closing_fault_of, reader_told, ReaderBehind, pick, verdict, Behind}
 use Rattle.tucson_judge.specs.declared.Mark.{Mark}
 use Rattle.tucson_judge.specs.declared.Reader.{Reader}
 use Rattle.tucson_judge.specs.declared.Judged.{Judged}
@@ -102,7 +102,7 @@ module _ (k : Kept) (l : Line) (f : Facts) (is : line_in_columns k.text ≡ some
         ∙ ap (λ (x : Option Fault). or_fault x (series_fault unit none ks)) (sym h)
 
 -- ---- all codes
-module _ (unit : ℕ) (k : Kept) (before : Option Kept) (b : Option Begun) (l : Line) (f : Facts) (j : Judged) (year seen : ℕ) (reader : Reader)
+module _ (unit : ℕ) (k : Kept) (before : Option Kept) (b : Option Begun) (l : Line) (f : Facts) (j : Judged) (year seen : ℕ) (reader : Result Reader Mark)
     (follows goes : Bool) (is : line_in_columns k.text ≡ some l) (numbers : NumbersOf l f) (follows_is : follows_its before k ≡ follows)
     (year_is : line_found year ≡ or_else (line_found j.year) (cond (runs_in (not follows && not goes) k.text) (some k.line) none))
     (seen-now : line_found seen ≡ or_else (line_found j.seen) (cond (f.nine || (goes && same f.last hundredths)) (some k.line) none))
@@ -119,7 +119,8 @@ module _ (unit : ℕ) (k : Kept) (before : Option Kept) (b : Option Begun) (l : 
         ∙ ap (pick (or_else (line_found year) (year_fault (some k) ks)) (or_fault (mark_found j.fault) (series_fault unit (line_found seen) ks))) (reads.same_end ks e);
   }
 
-  pub judged_closed : (m : Mark) → goes ≡ false → mark_found m ≡ or_fault (mark_found j.fault) (closing_fault_of unit (line_found seen) k.line f.last)
+  pub judged_closed : (m : machine.Option Mark) → goes ≡ false
+      → mark_found m ≡ or_fault (mark_found j.fault) (closing_fault_of unit (line_found seen) k.line f.last)
       → Behind unit goes k before b j (record { year = year; fault = m; seen = 0; reader = reader })
   unfolding verdict line_found
   judged_closed m off h = record {
@@ -135,48 +136,41 @@ module _ (unit : ℕ) (k : Kept) (before : Option Kept) (b : Option Begun) (l : 
 -- ---- behind the last line
 module _ (unit : ℕ) (j : Judged) (b : Option Begun) (before : Option Kept) where
   at_end : verdict unit j b before []
-      ≡ pick (or_else (line_found j.year) none) (or_fault (mark_found j.fault) none) (refused_or j.reader.code j.reader.line legalities.Legal)
-  unfolding verdict year_fault series_fault reader_told closed_lines read_kept legality
+      ≡ pick (or_else (line_found j.year) none) (or_fault (mark_found j.fault) none) (reader_told j.reader b [])
+  unfolding verdict year_fault series_fault closed_lines
   at_end = refl
 
-  pub concluded_year : (j.year ≡ 0 → ⊥) → legalities.Refused 23 (capped j.year) ≡ verdict unit j b before []
+  pub concluded_year : (j.year ≡ 0 → ⊥) → refusal 23 (capped j.year) ≡ verdict unit j b before []
   unfolding line_found
   concluded_year h = go j.year h ∙ sym at_end
     where
-      go : (n : ℕ) → (n ≡ 0 → ⊥) → legalities.Refused 23 (capped n)
-          ≡ pick (or_else (line_found n) none) (or_fault (mark_found j.fault) none) (refused_or j.reader.code j.reader.line legalities.Legal)
+      go : (n : ℕ) → (n ≡ 0 → ⊥)
+          → refusal 23 (capped n) ≡ pick (or_else (line_found n) none) (or_fault (mark_found j.fault) none) (reader_told j.reader b [])
       go zero h = absurd (h refl)
       go (suc n) h = refl
 
   module _ (no-year : j.year ≡ 0) where
-    past-year : verdict unit j b before [] ≡ pick none (or_fault (mark_found j.fault) none) (refused_or j.reader.code j.reader.line legalities.Legal)
+    past-year : verdict unit j b before [] ≡ pick none (or_fault (mark_found j.fault) none) (reader_told j.reader b [])
     unfolding line_found
     past-year =
         at_end
-        ∙ ap (λ (n : ℕ). pick (or_else (line_found n) none) (or_fault (mark_found j.fault) none) (refused_or j.reader.code j.reader.line legalities.Legal)) no-year
+        ∙ ap (λ (n : ℕ). pick (or_else (line_found n) none) (or_fault (mark_found j.fault) none) (reader_told j.reader b [])) no-year
 
-    pub concluded_fault : (j.fault.line ≡ 0 → ⊥) → legalities.Refused j.fault.code (capped j.fault.line) ≡ verdict unit j b before []
+    pub concluded_fault : (m : Mark) → j.fault ≡ Some m → refusal m.code (capped m.line) ≡ verdict unit j b before []
     unfolding mark_found
-    concluded_fault h = go j.fault.line h ∙ sym past-year
-      where
-        go : (n : ℕ) → (n ≡ 0 → ⊥) → legalities.Refused j.fault.code (capped n)
-            ≡ pick none (or_fault (fault_at j.fault.code n) none) (refused_or j.reader.code j.reader.line legalities.Legal)
-        go zero h = absurd (h refl)
-        go (suc n) h = refl
+    concluded_fault m e =
+        sym (past-year ∙ ap (λ (f : machine.Option Mark). pick none (or_fault (mark_found f) none) (reader_told j.reader b [])) e)
 
-    module _ (no_fault : j.fault.line ≡ 0) where
-      past-fault : verdict unit j b before [] ≡ refused_or j.reader.code j.reader.line legalities.Legal
+    module _ (no_fault : j.fault ≡ None) where
+      past-fault : verdict unit j b before [] ≡ reader_told j.reader b []
       unfolding mark_found
       past-fault =
-          past-year
-          ∙ ap (λ (n : ℕ). pick none (or_fault (fault_at j.fault.code n) none) (refused_or j.reader.code j.reader.line legalities.Legal)) no_fault
+          past-year ∙ ap (λ (f : machine.Option Mark). pick none (or_fault (mark_found f) none) (reader_told j.reader b [])) no_fault
 
-      pub concluded_reader : (j.reader.line ≡ 0 → ⊥) → legalities.Refused j.reader.code (capped j.reader.line) ≡ verdict unit j b before []
-      concluded_reader h = go j.reader.line h ∙ sym past-fault
-        where
-          go : (n : ℕ) → (n ≡ 0 → ⊥) → legalities.Refused j.reader.code (capped n) ≡ refused_or j.reader.code n legalities.Legal
-          go zero h = absurd (h refl)
-          go (suc n) h = refl
+      pub concluded_reader : (m : Mark) → j.reader ≡ Err m → refusal m.code (capped m.line) ≡ verdict unit j b before []
+      unfolding reader_told
+      concluded_reader m e = sym (past-fault ∙ ap (λ (r : Result Reader Mark). reader_told r b []) e)
 
-      pub concluded_legal : j.reader.line ≡ 0 → legalities.Legal ≡ verdict unit j b before []
-      concluded_legal e = sym (past-fault ∙ ap (λ (n : ℕ). refused_or j.reader.code n legalities.Legal) e)
+      pub concluded_legal : (r : Reader) → j.reader ≡ Ok r → answer tt ≡ verdict unit j b before []
+      unfolding reader_told read_kept passed
+      concluded_legal r e = sym (past-fault ∙ ap (λ (r : Result Reader Mark). reader_told r b []) e)

@@ -1,13 +1,14 @@
 -- What the machine keeps of the lines so far, and what it stands for: with the lines to come it gives the verdict on all lines.
+use Rattle.std.specs.Prelude.{Some, None, Result, Ok, Err}
+use Rattle.std.specs.Prelude as machine
 use Rattle.std.specs.Prelude.{Bool, true, cond, ◌≡◌, ℕ, zero, suc, ◌<◌, ◌≤◌, ℤ, nat_abs, length}
 use mathlib.Core.List.{List, [], ◌∷◌, drop_last}
 use Rattle.std.proofs.Math.Option.{Option, some, none}
 use Rattle.base_outcome.specs.Codes as codes
-use Rattle.base_outcome.specs.Outcome.{capped}
+use Rattle.base_outcome.specs.Outcome.{Outcome, refusal, capped}
 use Rattle.base_outcome.specs.Search.{or_else}
-use Rattle.base_outcome.specs.Machine.{legality}
-use Rattle.base_outcome.specs.declared.Legality.{Legality}
-use Rattle.base_outcome.specs.declared.Legality.TheVariants as legalities
+use Rattle.base_outcome.specs.Machine.{reply, passed}
+use Rattle.base_outcome.specs.declared.Refusal.{Refusal}
 use Rattle.base_text.specs.Bytes.{Text}
 use Rattle.base_text.specs.Numeral.{numeral_limit}
 use Rattle.spec_tucson.specs.Line.{Line, decade, line_of, line_in_columns}
@@ -28,14 +29,10 @@ use Rattle.tucson_judge.specs.declared.Judged.{Judged}
 
 -- ---- what the machine's numbers stand for
 
--- A code and its line, or none where the line is 0.
-abbrev pub fault_at : ℕ → ℕ → Option Fault
-fault_at code zero = none
-fault_at code (suc n) = some (fault code (suc n))
-
--- A code with its line, or none where the line is 0.
-unfoldable pub mark_found : Mark → Option Fault
-mark_found m = fault_at m.code m.line
+-- A code with its line, if there is one.
+unfoldable pub mark_found : machine.Option Mark → Option Fault
+mark_found None = none
+mark_found (Some m) = some (fault m.code m.line)
 
 -- Codes 24 and 25 of a series whose last line has this number and this last field.
 unfoldable pub closing_fault_of : ℕ → Option ℕ → ℕ → ℤ → Option Fault
@@ -63,34 +60,32 @@ pub record FactsFit (f : Facts) : Type 0 where
   pub few : f.count ≤ decade
 
 -- The answer for every line that has these numbers.
-abbrev pub PassedOf : Facts → ℤ → Bool → Reader → Passed → Type 0
+abbrev pub PassedOf : Facts → ℤ → Bool → Reader → Result Passed ℕ → Type 0
 PassedOf f last goes r p = (place : ℕ) (b : Option Begun) (t : Text) (l : Line) → line_of t ≡ some l → ReadsAs l f last
     → Tracks b r.begun r.next r.small → Told place b (read_line place b goes t) p
 
 -- What the reader keeps of the series that is begun, unless it has refused.
-abbrev pub TracksReader : Option Begun → Reader → Type 0
-TracksReader b r = r.line ≡ 0 → Tracks b r.begun r.next r.small
+abbrev pub TracksReader : Option Begun → Result Reader Mark → Type 0
+TracksReader b (Ok r) = Tracks b r.begun r.next r.small
+TracksReader b (Err m) = Unit {0}
 
-abbrev pub refused_or : ℕ → ℕ → Legality → Legality
-refused_or code zero rest = rest
-refused_or code (suc n) rest = legalities.Refused code (capped (suc n))
+-- Whether all lines pass, or the first refusal.
+abbrev pub Verdict : Type 0
+Verdict = Outcome (Unit {0})
 
 -- What the reader ends with behind the lines to come.
-unfoldable pub reader_told : Reader → Option Begun → List Kept → Legality
-reader_told r b ks = refused_or r.code r.line (legality (read_kept b ks))
+unfoldable pub reader_told : Result Reader Mark → Option Begun → List Kept → Verdict
+reader_told (Ok r) b ks = passed (read_kept b ks)
+reader_told (Err m) b ks = refusal m.code (capped m.line)
 
 -- The reader behind a line: what is begun, and that it ends as the one before the line does.
-pub record ReaderBehind (unit : ℕ) (goes : Bool) (k : Kept) (b : Option Begun) (r n : Reader) : Type 0 where
+pub record ReaderBehind (unit : ℕ) (goes : Bool) (k : Kept) (b : Option Begun) (r n : Result Reader Mark) : Type 0 where
   pub begun-behind : Option Begun
   pub tracks : TracksReader begun-behind n
   pub same_end : (ks : List Kept) → continues k ks ≡ goes
       → reader_told r b (closed_lines unit (k ∷ ks)) ≡ reader_told n begun-behind (closed_lines unit ks)
 
-pub record JudgeAsks (f : Facts) (number : ℕ) : Type 0 where
-  pub fit : FactsFit f
-  pub numbered : 1 ≤ number
-
-abbrev pub ReaderNext : ℕ → Facts → Bool → ℕ → Reader → Reader → Type 0
+abbrev pub ReaderNext : ℕ → Facts → Bool → ℕ → Result Reader Mark → Result Reader Mark → Type 0
 ReaderNext unit f goes number r n = (k : Kept) (l : Line) (b : Option Begun) → k.line ≡ number → line_in_columns k.text ≡ some l
     → NumbersOf l f
     → TracksReader b r → ReaderBehind unit goes k b r n
@@ -98,13 +93,13 @@ ReaderNext unit f goes number r n = (k : Kept) (l : Line) (b : Option Begun) →
 -- ---- all codes
 
 -- The refusal of code 23, else that of 24 or 25, else the reader's end.
-abbrev pub pick : Option ℕ → Option Fault → Legality → Legality
-pick (some line) f rest = legalities.Refused codes.file_name (capped line)
-pick none (some f) rest = legalities.Refused f.code (capped f.line)
+abbrev pub pick : Option ℕ → Option Fault → Verdict → Verdict
+pick (some line) f rest = refusal codes.file_name (capped line)
+pick none (some f) rest = refusal f.code (capped f.line)
 pick none none rest = rest
 
 -- The verdict on all lines, from what was found so far and the lines to come, behind this line.
-unfoldable pub verdict : ℕ → Judged → Option Begun → Option Kept → List Kept → Legality
+unfoldable pub verdict : ℕ → Judged → Option Begun → Option Kept → List Kept → Verdict
 verdict unit j b before ks =
     pick (or_else (line_found j.year) (year_fault before ks)) (or_fault (mark_found j.fault) (series_fault unit (line_found j.seen) ks))
     (reader_told j.reader b (closed_lines unit ks))
@@ -125,5 +120,5 @@ pub record LineAsks (t : Text) (number : ℕ) : Type 0 where
   pub numbered : 1 ≤ number
 
 -- Where no line is to come, what was found is the verdict.
-abbrev pub Concluded : Judged → Legality → Type 0
-Concluded j r = (unit : ℕ) (b : Option Begun) (before : Option Kept) → r ≡ verdict unit j b before []
+abbrev pub Concluded : Judged → Result (Unit {0}) Refusal → Type 0
+Concluded j r = (unit : ℕ) (b : Option Begun) (before : Option Kept) → reply r ≡ verdict unit j b before []

@@ -11,39 +11,36 @@ ghost use Rattle.spec_tucson.specs.Series.{hundredths};
 ghost use Rattle.spec_tucson.specs.CleanSeries.{closing_of, is_unit_fault, closing_after, or_fault};
 ghost use Rattle.tucson_lines.specs.Machine.{line_found};
 ghost use Rattle.tucson_judge.specs.Judging.{mark_found, closing_fault_of, last_after, FactsFit, PassedOf, ReaderNext};
-ghost use Rattle.tucson_judge.specs.Judging.{JudgeAsks, LineAsks, JudgedNext, Concluded};
+ghost use Rattle.tucson_judge.specs.Judging.{LineAsks, JudgedNext, Concluded};
 
-use base_outcome::{Legality, codes, limits};
+use base_outcome::{Refusal, codes, limits};
 use tucson_fields::Facts;
 use tucson_lines::units;
 use tucson_scan::Passed;
 
-// A code and the line that it is for; line 0 where there is none.
+// A code and the line that it is for.
 #[derive(Clone, Copy)]
 pub struct Mark {
     pub code: u8,
     pub line: usize,
 }
 
-// The strict reader: its refusal, if there is one, and else whether a series is begun, the year that must come next, and whether all
-// widths so far are at most 9,999.
+// The strict reader: whether a series is begun, the year that must come next, and whether all widths so far are at most 9,999.
 #[derive(Clone, Copy)]
 pub struct Reader {
-    pub code: u8,
-    pub line: usize,
     pub begun: bool,
     pub next: i32,
     pub small: bool,
 }
 
 // What was found in the lines so far: the first line of code 23, the first of codes 24 and 25, the first line of this series with 999
-// before the closing, and the reader.
+// before the closing, and the reader or its refusal. Line 0 stands for none.
 #[derive(Clone, Copy)]
 pub struct Judged {
     pub year: usize,
-    pub fault: Mark,
+    pub fault: Option<Mark>,
     pub seen: usize,
-    pub reader: Reader,
+    pub reader: Result<Reader, Mark>,
 }
 
 // The one line, if there is one, or this line where the test holds.
@@ -109,26 +106,28 @@ fn last_after(unit: u32, goes: bool, last: i32) -> i32
 }
 
 // The first of codes 24 and 25, with those of a series whose last line this is.
-fn closing_mark(m: Mark, unit: u32, seen: usize, number: usize, last: i32) -> Mark
-    requires { 1 ≤ number }
+fn closing_mark(m: Option<Mark>, unit: u32, seen: usize, number: usize, last: i32) -> Option<Mark>
     ensures { mark_found result ≡ or_fault (mark_found m) (closing_fault_of unit (line_found seen) number last) }
 {
-    if m.line != 0 {
+    if m.is_some() {
         return m;
     }
     if is_unit_fault(unit, last) {
-        return Mark {
+        return Some(Mark {
             code: codes::FILE_UNIT,
             line: number,
-        };
+        });
+    }
+    if seen == 0 {
+        return None;
     }
     if tucson_lines::same(closing_after(unit, last), units::HUNDREDTHS) {
-        return Mark {
+        return Some(Mark {
             code: codes::FILE_CLOSING,
             line: seen,
-        };
+        });
     }
-    Mark { code: 0, line: 0 }
+    None
 }
 
 // ---- the strict reader
@@ -148,13 +147,13 @@ fn is_good(year: i32, count: usize, widths: bool, last: i32) -> bool
     )
 }
 
-// Tests a line with these numbers and this last field.
-fn pass(f: Facts, last: i32, goes: bool, r: Reader) -> Passed
+// Tests a line with these numbers and this last field: what it leaves, or the code of its refusal.
+fn pass(f: Facts, last: i32, goes: bool, r: Reader) -> Result<Passed, u8>
     requires { FactsFit f }
     ensures { PassedOf f last goes r result }
 {
     if !is_good(f.year, f.count, f.widths, last) {
-        return Passed::Refused(codes::TUCSON_LINE);
+        return Err(codes::TUCSON_LINE);
     }
     if goes {
         return tucson_scan::extend(r.begun, r.next, r.small, f.year, f.count, f.small, last);
@@ -162,30 +161,25 @@ fn pass(f: Facts, last: i32, goes: bool, r: Reader) -> Passed
     tucson_scan::close(r.begun, r.next, r.small, f.year, f.count, f.small, last)
 }
 
-// The reader behind a line with these numbers.
-fn read(r: Reader, f: Facts, goes: bool, unit: u32, number: usize) -> Reader
-    requires { JudgeAsks f number }
+// The reader behind a line with these numbers, or its refusal.
+fn read(
+    r: Result<Reader, Mark>,
+    f: Facts,
+    goes: bool,
+    unit: u32,
+    number: usize,
+) -> Result<Reader, Mark>
+    requires { FactsFit f }
     ensures { ReaderNext unit f goes number r result }
 {
-    if r.line != 0 {
-        return r;
-    }
-    let passed = pass(f, last_after(unit, goes, f.last), goes, r);
-    match passed {
-        Passed::Refused(code) => Reader {
-            code: code,
-            line: number,
-            begun: false,
-            next: 0,
-            small: true,
-        },
-        Passed::On(more, n, next, small) => Reader {
-            code: 0,
-            line: 0,
-            begun: more,
-            next: next,
-            small: small,
-        },
+    let before = r?;
+    match pass(f, last_after(unit, goes, f.last), goes, before) {
+        Ok(line) => Ok(Reader {
+            begun: line.more,
+            next: line.next,
+            small: line.small,
+        }),
+        Err(code) => Err(Mark { code, line: number }),
     }
 }
 
@@ -208,40 +202,44 @@ pub fn judge(j: Judged, line: &[u8], number: usize, follows: bool, goes: bool, u
     let alone = tucson_lines::both(!follows, !goes);
     let year = first_line(j.year, tucson_names::runs_in(line, alone), number);
     let seen = first_line(j.seen, has_nine(goes, f.nine, f.last), number);
-    let before = j.reader;
-    let reader = read(before, f, goes, unit, number);
-    let fault = j.fault;
+    let reader = read(j.reader, f, goes, unit, number);
     if goes {
         return Judged {
-            year: year,
-            fault: fault,
-            seen: seen,
-            reader: reader,
+            year,
+            fault: j.fault,
+            seen,
+            reader,
         };
     }
-    let marked = closing_mark(fault, unit, seen, number, f.last);
     Judged {
-        year: year,
-        fault: marked,
+        year,
+        fault: closing_mark(j.fault, unit, seen, number, f.last),
         seen: 0,
-        reader: reader,
+        reader,
     }
 }
 
 // The verdict behind the last line.
-pub fn conclude(j: Judged) -> Legality
+pub fn conclude(j: Judged) -> Result<(), Refusal>
     ensures { Concluded j result }
 {
     if j.year != 0 {
-        return Legality::Refused(codes::FILE_NAME, base_outcome::place(j.year));
+        return Err(Refusal {
+            code: codes::FILE_NAME,
+            place: base_outcome::place(j.year),
+        });
     }
-    let fault = j.fault;
-    if fault.line != 0 {
-        return Legality::Refused(fault.code, base_outcome::place(fault.line));
+    if let Some(fault) = j.fault {
+        return Err(Refusal {
+            code: fault.code,
+            place: base_outcome::place(fault.line),
+        });
     }
-    let reader = j.reader;
-    if reader.line != 0 {
-        return Legality::Refused(reader.code, base_outcome::place(reader.line));
+    if let Err(refused) = j.reader {
+        return Err(Refusal {
+            code: refused.code,
+            place: base_outcome::place(refused.line),
+        });
     }
-    Legality::Legal
+    Ok(())
 }

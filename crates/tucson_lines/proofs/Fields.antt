@@ -7,6 +7,7 @@ use mathlib.Core.Option.{Option, some, none}
 use Prim.Native.Nat.{ℕ, suc, ◌+◌, ◌-◌, ◌≤◌}
 use native.Mathlib.Omega.{arith}
 use borrow.Author.Tests.{eq-eqb}
+use Rattle.std.specs.Prelude.{Some, None}
 use lib.IntN.{ℤ, pos}
 use lib.Signed.{le_z}
 use lib.ListN.{length}
@@ -18,7 +19,6 @@ use Rattle.spec_tucson.specs.Line.{name_columns, field_columns, all_printable, a
 use Rattle.spec_tucson.specs.Series.{hundredths_limit, all_hundredths}
 use Rattle.spec_tucson.specs.Writing.{all_widths}
 use Rattle.tucson_lines.specs.Machine.{widths_told}
-use Rattle.tucson_lines.specs.declared.WidthsAnswer.TheVariants.{Small, Bad}
 
 -- ---- a name of the right length
 module _ (text : Text) (from : ℕ) (within : from + name_columns ≤ length text) where
@@ -45,17 +45,17 @@ pub fields-first : (n : ℕ) (text : Text) (at to : ℕ) → 1 ≤ n → at + fi
 fields-first n text at to h k = let e : n ≡ suc (n - 1) = omega arith in ap (λ (m : ℕ). field_numerals m (slice at to text)) e ∙ fields-here (n - 1) text at to k
 
 -- ---- widths
-pub widths_no_numeral : (small : Bool) (o : Option ℤ) (r : Option (List ℤ)) → o ≡ none → widths_told small (with_field o r) ≡ Bad
+pub widths_no_numeral : (small : Bool) (o : Option ℤ) (r : Option (List ℤ)) → o ≡ none → widths_told small (with_field o r) ≡ None
 unfolding widths_told
 widths_no_numeral small o r e = ap (λ (x : Option ℤ). widths_told small (with_field x r)) e
 
-pub widths_no_width : (small : Bool) (o : Option ℤ) (z : ℤ) (r : Option (List ℤ)) → o ≡ some z → is_width z ≡ false → widths_told small (with_field o r) ≡ Bad
+pub widths_no_width : (small : Bool) (o : Option ℤ) (z : ℤ) (r : Option (List ℤ)) → o ≡ some z → is_width z ≡ false → widths_told small (with_field o r) ≡ None
 unfolding widths_told all_widths
 widths_no_width small o z r e h = ap (λ (x : Option ℤ). widths_told small (with_field x r)) e ∙ go r
   where
-    go : (r : Option (List ℤ)) → widths_told small (with_field (some z) r) ≡ Bad
+    go : (r : Option (List ℤ)) → widths_told small (with_field (some z) r) ≡ None
     go none = refl
-    go (some ws) = ap (λ (b : Bool). cond (b && all_widths ws) (Small (small && all_hundredths (z ∷ ws))) Bad) h
+    go (some ws) = ap (λ (b : Bool). cond (b && all_widths ws) (Some (small && all_hundredths (z ∷ ws))) None) h
 
 pub widths_next : (small : Bool) (o : Option ℤ) (z : ℤ) (r : Option (List ℤ)) → o ≡ some z → is_width z ≡ true
     → widths_told small (with_field o r) ≡ widths_told (small && le_z z (pos hundredths_limit)) r
@@ -64,8 +64,8 @@ widths_next small o z r e h = ap (λ (x : Option ℤ). widths_told small (with_f
   where
     go : (r : Option (List ℤ)) → widths_told small (with_field (some z) r) ≡ widths_told (small && le_z z (pos hundredths_limit)) r
     go none = refl
-    go (some ws) = ap₂ (λ (b c : Bool). cond (b && all_widths ws) (Small c) Bad) h (sym (and_assoc small (le_z z (pos hundredths_limit)) (all_hundredths ws)))
+    go (some ws) = ap₂ (λ (b c : Bool). cond (b && all_widths ws) (Some c) None) h (sym (and_assoc small (le_z z (pos hundredths_limit)) (all_hundredths ws)))
 
-pub widths_end : (small : Bool) (t : Text) → widths_told small (field_numerals 0 t) ≡ Small small
+pub widths_end : (small : Bool) (t : Text) → widths_told small (field_numerals 0 t) ≡ Some small
 unfolding widths_told field_numerals all_widths all_hundredths
-widths_end small t = ap Small (and-true-right small)
+widths_end small t = ap Some (and-true-right small)

@@ -8,10 +8,14 @@ use mathlib.Core.Option.{Option, some, none}
 use Prim.Native.Nat.{ℕ, zero, suc, ◌+◌, ◌*◌, ◌-◌, ◌<◌, ◌≤◌}
 use native.Mathlib.Omega.{arith}
 use borrow.Author.Tests.{leb-true, eqb-true}
+use Rattle.std.specs.Prelude.{Some, None}
 use lib.Dec.{eqb, leb}
 use lib.IntN.{ℤ, pos, negsuc, nat_abs}
 use lib.ListN.{length, take, drop}
 use lib.Seq.{slice, length-slice}
+use mir.Syntax.{w32}
+use mir.Val.{SFits}
+use Rattle.base_exact.proofs.Word.{sfits_abs}
 use Rattle.base_exact.proofs.Decide.{and-true, le_or_lt, clash}
 use Rattle.base_text.specs.Bytes.{Text, minus, newline, Cut, cut}
 use Rattle.base_text.specs.Numeral.{numeral, is_natural, digits_value, negated, numeral_limit}
@@ -23,9 +27,9 @@ use Rattle.spec_tucson.specs.Line.{all_printable, all_blank, is_name, is_width, 
 use Rattle.spec_tucson.specs.Line.{fields_allowed, if_allowed, good_line}
 use Rattle.spec_tucson.specs.TextReading.{last_field}
 use Rattle.tucson_lines.specs.Machine.{line_told, LineEnd}
-use Rattle.tucson_lines.specs.declared.LineAnswer.TheVariants as line-cases
+use Rattle.tucson_lines.specs.declared.LineNumbers.{LineNumbers}
 use Rattle.tucson_lines.proofs.Lines.{end_within, good-unended, good-columns}
-use Rattle.tucson_lines.proofs.LineNumerals.{fields-count}
+use Rattle.tucson_lines.proofs.LineNumerals.{fields-count, fields-last}
 
 -- ---- the size of a number in columns
 negated-small : (b : Bool) (n : ℕ) (z : ℤ) → negated b n ≡ some z → (b ≡ true → n < numeral_limit) → nat_abs z < numeral_limit
@@ -52,6 +56,10 @@ columns-small (c ∷ cs) z e = go (eqb c blank) e (columns-small cs z)
     go : (b : Bool) → cond b (in_columns cs) (numeral (c ∷ cs)) ≡ some z → (in_columns cs ≡ some z → nat_abs z < numeral_limit) → nat_abs z < numeral_limit
     go true e ih = ih e
     go false e ih = numeral-small (c ∷ cs) z e
+
+-- and so in a word of the machine
+pub columns-fit : (t : Text) (z : ℤ) → in_columns t ≡ some z → SFits w32 z
+columns-fit t z e = sfits_abs {w = w32} (omega (arith, columns-small t z e))
 
 -- ---- a line that is not its series' last
 allowed_more : (fs : List ℤ) → fields_allowed false fs ≡ (fields_allowed true fs && is_width (last_field fs))
@@ -97,6 +105,7 @@ pub record GoodLine (text : Text) (from end : ℕ) (l : Line) : Type 0 where
   pub name : l.name ≡ slice from (from + name_columns) text
   pub numerals : field_numerals (length l.fields) (slice (from + 12) end text) ≡ some l.fields
   pub year-small : nat_abs l.year < numeral_limit
+  pub last-small : nat_abs (last_field l.fields) < numeral_limit
   pub allowed : fields_allowed true l.fields ≡ true
 
 -- the parts of a line in columns
@@ -174,6 +183,7 @@ good-line text from end at l e = go (le_or_lt (length text) end)
           name = p.name ∙ name_at;
           numerals = ap₂ field_numerals count (sym (drop-slice head_columns from end text)) ∙ p.fields;
           year-small = columns-small _ l.year p.year;
+          last-small = columns-small _ _ (fields-last (field_count body) (drop head_columns body) l.fields q.1.0 p.fields);
           allowed = allowed.1.1;
         }
 
@@ -182,21 +192,21 @@ good-line text from end at l e = go (le_or_lt (length text) end)
     go (inr h) = parts h
 
 -- ---- what the answer for a line says of it
-pub line-none : (o : Option Line) → line_told o ≡ line-cases.Bad → o ≡ none
+pub line-none : (o : Option Line) → line_told o ≡ None → o ≡ none
 unfolding line_told
 line-none none e = refl
 line-none (some l) e = clash cc
 
 -- The line is this one, told so.
-pub record IsLine (o : Option Line) (year : ℤ) (n : ℕ) (small : Bool) (last : ℤ) : Type 0 where
+pub record IsLine (o : Option Line) (r : LineNumbers) : Type 0 where
   pub line : Line
   pub is : o ≡ some line
-  pub told : line_told (some line) ≡ line-cases.Good year n small last
+  pub told : line_told (some line) ≡ Some r
 
-pub line_some : (o : Option Line) (year : ℤ) (n : ℕ) (small : Bool) (last : ℤ) → line_told o ≡ line-cases.Good year n small last → IsLine o year n small last
+pub line_some : (o : Option Line) (r : LineNumbers) → line_told o ≡ Some r → IsLine o r
 unfolding line_told
-line_some none year n small last e = clash cc
-line_some (some l) year n small last e = record { line = l; is = refl; told = e }
+line_some none r e = clash cc
+line_some (some l) r e = record { line = l; is = refl; told = e }
 
 -- ---- a good line's name is one
 pub good-name : (t : Text) (l : Line) → good_line true t ≡ some l → is_name l.name ≡ true

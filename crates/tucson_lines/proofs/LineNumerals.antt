@@ -9,6 +9,8 @@ use Prim.Native.Nat.{ℕ, zero, suc, ◌+◌, ◌*◌, ◌-◌, ◌/◌, ◌<◌
 use native.Mathlib.Omega.{arith}
 use borrow.Author.Tests.{eq-eqb, ne_eqb, le-leb, lt-leb}
 use lib.Dec.{eqb, leb}
+use Rattle.std.specs.Prelude.{Some, None}
+use Rattle.std.specs.Prelude as machine
 use lib.IntN.{ℤ}
 use lib.ListN.{length, take, drop, length-append}
 use lib.Seq.{slice, drop-drop, length-slice}
@@ -23,10 +25,8 @@ use Rattle.spec_tucson.specs.Series.{all_hundredths}
 use Rattle.spec_tucson.specs.TextReading.{last_field}
 use Rattle.spec_tucson.specs.Writing.{all_widths}
 pub use Rattle.spec_tucson.proofs.Lines.{fields-count, year-below}
-use Rattle.tucson_lines.specs.Machine.{widths_told, line_told, numerals_told, LineEnd, ColumnsOf}
-use Rattle.tucson_lines.specs.declared.WidthsAnswer.TheVariants as widths-cases
-use Rattle.tucson_lines.specs.declared.LineAnswer.{LineAnswer}
-use Rattle.tucson_lines.specs.declared.LineAnswer.TheVariants as line-cases
+use Rattle.tucson_lines.specs.Machine.{widths_told, line_told, numbers, numerals_told, LineEnd, ColumnsOf}
+use Rattle.tucson_lines.specs.declared.LineNumbers.{LineNumbers}
 use Rattle.tucson_lines.proofs.Lines.{end_within, good-columns}
 
 -- ---- the last field behind the others
@@ -84,15 +84,27 @@ fields-front n t fs h e =
     let k : n ≡ suc (n - 1) = omega arith in
     behind-front (field_numerals (n - 1) t) _ fs (sym (fields-behind (n - 1) t) ∙ ap (λ (m : ℕ). field_numerals m t) (sym k) ∙ e)
 
+-- the last field
+behind-last : (x : Option (List ℤ)) (o : Option ℤ) (fs : List ℤ) → behind x o ≡ some fs → o ≡ some (last_field fs)
+behind-last none o fs e = clash cc
+behind-last (some ws) none fs e = clash cc
+behind-last (some ws) (some f) fs e = let is : ws ++ (f ∷ []) ≡ fs = cc in ap some (sym (last-behind ws f) ∙ ap last_field is)
+
+pub fields-last : (n : ℕ) (t : Text) (fs : List ℤ) → 1 ≤ n → field_numerals n t ≡ some fs
+    → in_columns (take field_columns (drop ((n - 1) * field_columns) t)) ≡ some (last_field fs)
+fields-last n t fs h e =
+    let k : n ≡ suc (n - 1) = omega arith in
+    behind-last (field_numerals (n - 1) t) _ fs (sym (fields-behind (n - 1) t) ∙ ap (λ (m : ℕ). field_numerals m t) (sym k) ∙ e)
+
 -- ---- what is told of a year, the fields but the last, and the last
-abbrev told : Text → Option ℤ → Option (List ℤ) → Option ℤ → LineAnswer
+abbrev told : Text → Option ℤ → Option (List ℤ) → Option ℤ → machine.Option LineNumbers
 told name y front last = line_told (if_allowed true (with_numerals name y (behind front last)))
 
-told_no_year : (name : Text) (front : Option (List ℤ)) (last : Option ℤ) → told name none front last ≡ line-cases.Bad
+told_no_year : (name : Text) (front : Option (List ℤ)) (last : Option ℤ) → told name none front last ≡ None
 unfolding line_told
 told_no_year name front last = refl
 
-told_no_last : (name : Text) (y : ℤ) (front : Option (List ℤ)) → told name (some y) front none ≡ line-cases.Bad
+told_no_last : (name : Text) (y : ℤ) (front : Option (List ℤ)) → told name (some y) front none ≡ None
 unfolding line_told
 told_no_last name y none = refl
 told_no_last name y (some ws) = refl
@@ -109,41 +121,41 @@ module _ (name : Text) (y : ℤ) (ws : List ℤ) (f : ℤ) where
   count-made : year_in_decade y + length (ws ++ (f ∷ [])) ≡ year_in_decade y + (length ws + 1)
   count-made = ap (λ (n : ℕ). year_in_decade y + n) (length-append ws (f ∷ []))
 
-  told_late : decade < year_in_decade y + (length ws + 1) → told name (some y) (some ws) (some f) ≡ line-cases.Bad
+  told_late : decade < year_in_decade y + (length ws + 1) → told name (some y) (some ws) (some f) ≡ None
   unfolding line_told within_decade
   told_late h =
       tested false
       (ap (λ (b : Bool). b && fields_allowed true made.fields) (lt-leb (year_in_decade y + length made.fields) decade (rw count-made h)))
 
-  told_no_width : all_widths ws ≡ false → told name (some y) (some ws) (some f) ≡ line-cases.Bad
+  told_no_width : all_widths ws ≡ false → told name (some y) (some ws) (some f) ≡ None
   unfolding line_told
   told_no_width h =
       tested false (ap (λ (b : Bool). within_decade made && b) (allowed_behind ws f ∙ ap (λ (b : Bool). b && (is_width f || same f thousandths)) h)
       ∙ and-false (within_decade made))
 
-  told_no_end : (is_width f || same f thousandths) ≡ false → told name (some y) (some ws) (some f) ≡ line-cases.Bad
+  told_no_end : (is_width f || same f thousandths) ≡ false → told name (some y) (some ws) (some f) ≡ None
   unfolding line_told
   told_no_end h =
       tested false (ap (λ (b : Bool). within_decade made && b) (allowed_behind ws f ∙ ap (λ (b : Bool). all_widths ws && b) h
       ∙ and-false (all_widths ws)) ∙ and-false (within_decade made))
 
   told_good : year_in_decade y + (length ws + 1) ≤ decade → all_widths ws ≡ true → (is_width f || same f thousandths) ≡ true
-      → told name (some y) (some ws) (some f) ≡ line-cases.Good y (length ws + 1) (all_hundredths ws) f
+      → told name (some y) (some ws) (some f) ≡ Some (numbers y (length ws + 1) (all_hundredths ws) f)
   unfolding line_told within_decade
   told_good h k e =
       tested true (ap₂ ◌&&◌ (le-leb (year_in_decade y + length made.fields) decade (rw count-made h)) (allowed_behind ws f ∙ ap₂ ◌&&◌ k e))
       ∙ rw (length-append ws (f ∷ []), front-behind ws f, last-behind ws f)
 
 -- fields that are no widths
-told_bad_widths : (name : Text) (y : ℤ) (front : Option (List ℤ)) (last : Option ℤ) → widths_told true front ≡ widths-cases.Bad
-    → told name (some y) front last ≡ line-cases.Bad
+told_bad_widths : (name : Text) (y : ℤ) (front : Option (List ℤ)) (last : Option ℤ) → widths_told true front ≡ None
+    → told name (some y) front last ≡ None
 unfolding widths_told line_told
 told_bad_widths name y none last e = refl
 told_bad_widths name y (some ws) none e = refl
 told_bad_widths name y (some ws) (some f) e = go (all_widths ws) refl e
   where
-    go : (b : Bool) → all_widths ws ≡ b → cond b (widths-cases.Small (all_hundredths ws)) widths-cases.Bad ≡ widths-cases.Bad
-        → told name (some y) (some ws) (some f) ≡ line-cases.Bad
+    go : (b : Bool) → all_widths ws ≡ b → cond b (Some (all_hundredths ws)) None ≡ None
+        → told name (some y) (some ws) (some f) ≡ None
     go true k e = clash cc
     go false k e = told_no_width name y ws f k
 
@@ -154,18 +166,18 @@ pub record AreWidths (front : Option (List ℤ)) (small : Bool) : Type 0 where
   pub all : all_widths list ≡ true
   pub below : all_hundredths list ≡ small
 
-are_widths : (front : Option (List ℤ)) (small : Bool) → widths_told true front ≡ widths-cases.Small small → AreWidths front small
+are_widths : (front : Option (List ℤ)) (small : Bool) → widths_told true front ≡ Some small → AreWidths front small
 unfolding widths_told
 are_widths none small e = clash cc
 are_widths (some ws) small e = go (all_widths ws) refl e
   where
-    go : (b : Bool) → all_widths ws ≡ b → cond b (widths-cases.Small (all_hundredths ws)) widths-cases.Bad ≡ widths-cases.Small small → AreWidths (some ws) small
+    go : (b : Bool) → all_widths ws ≡ b → cond b (Some (all_hundredths ws)) None ≡ Some small → AreWidths (some ws) small
     go true k e = record { list = ws; is = refl; all = k; below = cc }
     go false k e = clash cc
 
 -- ---- the numbers of a line between two indices
 module _ {text : Text} {from end n : ℕ} (columns : ColumnsOf text from end n) where
-  abbrev told_here : LineAnswer
+  abbrev told_here : machine.Option LineNumbers
   told_here = numerals_told (slice from end text) n
 
   abbrev name-text : Text
@@ -203,20 +215,20 @@ module _ {text : Text} {from end n : ℕ} (columns : ColumnsOf text from end n) 
   parts : told_here ≡ told name-text year-numeral front-numerals last-numeral
   parts = ap₂ (λ (y : Option ℤ) (fs : Option (List ℤ)). line_told (if_allowed true (with_numerals name-text y fs))) year-at fields_at
 
-  pub numerals_no_year : year-numeral ≡ none → told_here ≡ line-cases.Bad
+  pub numerals_no_year : year-numeral ≡ none → told_here ≡ None
   numerals_no_year e = parts ∙ ap (λ (y : Option ℤ). told name-text y front-numerals last-numeral) e ∙ told_no_year name-text front-numerals last-numeral
 
   module _ {y : ℤ} (is_year : year-numeral ≡ some y) where
     with_year : told_here ≡ told name-text (some y) front-numerals last-numeral
     with_year = parts ∙ ap (λ (o : Option ℤ). told name-text o front-numerals last-numeral) is_year
 
-    pub numerals_no_widths : widths_told true front-numerals ≡ widths-cases.Bad → told_here ≡ line-cases.Bad
+    pub numerals_no_widths : widths_told true front-numerals ≡ None → told_here ≡ None
     numerals_no_widths e = with_year ∙ told_bad_widths name-text y front-numerals last-numeral e
 
-    pub numerals_no_last : last-numeral ≡ none → told_here ≡ line-cases.Bad
+    pub numerals_no_last : last-numeral ≡ none → told_here ≡ None
     numerals_no_last e = with_year ∙ ap (told name-text (some y) front-numerals) e ∙ told_no_last name-text y front-numerals
 
-    module _ {small : Bool} (are : widths_told true front-numerals ≡ widths-cases.Small small) {f : ℤ} (is_last : last-numeral ≡ some f) where
+    module _ {small : Bool} (are : widths_told true front-numerals ≡ Some small) {f : ℤ} (is_last : last-numeral ≡ some f) where
       abbrev widths : AreWidths front-numerals small
       widths = are_widths front-numerals small are
 
@@ -226,16 +238,16 @@ module _ {text : Text} {from end n : ℕ} (columns : ColumnsOf text from end n) 
       with_all : told_here ≡ told name-text (some y) (some widths.list) (some f)
       with_all = with_year ∙ ap₂ (told name-text (some y)) widths.is is_last
 
-      pub numerals_late : decade < year_in_decade y + n → told_here ≡ line-cases.Bad
+      pub numerals_late : decade < year_in_decade y + n → told_here ≡ None
       numerals_late h = with_all ∙ told_late name-text y widths.list f (rw front-count h)
 
-      pub numerals_no_end : (is_width f || same f thousandths) ≡ false → told_here ≡ line-cases.Bad
+      pub numerals_no_end : (is_width f || same f thousandths) ≡ false → told_here ≡ None
       numerals_no_end h = with_all ∙ told_no_end name-text y widths.list f h
 
-      pub numerals-good : year_in_decade y + n ≤ decade → (is_width f || same f thousandths) ≡ true → told_here ≡ line-cases.Good y n small f
+      pub numerals-good : year_in_decade y + n ≤ decade → (is_width f || same f thousandths) ≡ true → told_here ≡ Some (numbers y n small f)
       numerals-good h k =
           with_all ∙ told_good name-text y widths.list f (rw front-count h) widths.all k
-          ∙ ap₂ (λ (m : ℕ) (s : Bool). line-cases.Good y m s f) front-count widths.below
+          ∙ ap₂ (λ (m : ℕ) (s : Bool). Some (numbers y m s f)) front-count widths.below
 
 -- ---- the columns of a line between two indices
 module _ (text : Text) (from end : ℕ) (at : LineEnd text from end) (ended : end < length text) where

@@ -16,23 +16,17 @@ ghost use Rattle.spec_tucson.specs.TextReading.{goes_on};
 ghost use Rattle.tucson_lines.specs.Machine.{widths_told, numerals_told, line_told, LineEnd, FieldsWithin, ColumnsOf, NamedLine};
 
 use base_outcome::limits;
-use base_text::numeral::Field;
 
 // The years of a decade, as a remainder of years takes them.
 const DECADE_YEARS: u32 = limits::DECADE as u32;
 
 // A good line: its year, how many fields it has, whether all fields but the last are at most 9,999, and the last field.
 #[derive(Clone, Copy)]
-pub enum LineAnswer {
-    Good(i32, usize, bool, i32),
-    Bad,
-}
-
-// Whether some fields are widths, and if so whether all are at most 9,999.
-#[derive(Clone, Copy)]
-enum WidthsAnswer {
-    Small(bool),
-    Bad,
+pub struct LineNumbers {
+    pub year: i32,
+    pub count: usize,
+    pub small: bool,
+    pub last: i32,
 }
 
 pub fn both(a: bool, b: bool) -> bool
@@ -61,49 +55,30 @@ pub fn same(a: i32, b: i32) -> bool
 }
 
 // The number that stands right-aligned in some columns.
-pub fn numeral(text: &[u8], from: usize, to: usize) -> Field
+pub fn numeral(text: &[u8], from: usize, to: usize) -> Option<i32>
     requires { Range text.now from to }
     ensures { result ≡ Machine.field (in_columns (slice from to text.now)) }
 {
-    let mut i = from;
-    while i < to {
+    for i in from..to {
         if text[i] != b' ' {
             return base_text::numeral::numeral(text, i, to);
         }
-        i += 1;
     }
-    Field::Bad
+    None
 }
 
 fn all_printable(text: &[u8], from: usize, to: usize) -> bool
     requires { Range text.now from to }
     ensures { result ≡ all_printable (slice from to text.now) }
 {
-    let mut i = from;
-    while i < to {
-        if text[i] < b' ' {
-            return false;
-        }
-        if text[i] > b'~' {
-            return false;
-        }
-        i += 1;
-    }
-    true
+    text[from..to].iter().all(|x| *x >= b' ' && *x <= b'~')
 }
 
 fn all_blank(text: &[u8], from: usize, to: usize) -> bool
     requires { Range text.now from to }
     ensures { result ≡ all_blank (slice from to text.now) }
 {
-    let mut i = from;
-    while i < to {
-        if text[i] != b' ' {
-            return false;
-        }
-        i += 1;
-    }
-    true
+    text[from..to].iter().all(|x| *x == b' ')
 }
 
 // Whether the eight bytes from the index on are a series name.
@@ -136,87 +111,73 @@ pub fn is_width(field: i32) -> bool
 fn ends_series(field: i32) -> bool
     ensures { result ≡ (is_width field || Line.same field thousandths) }
 {
-    if is_width(field) {
-        return true;
-    }
-    same(field, units::THOUSANDTHS)
+    is_width(field) || same(field, units::THOUSANDTHS)
 }
 
-// Looks through the first n fields from the index on.
-fn widths(text: &[u8], from: usize, to: usize, n: usize) -> WidthsAnswer
+// Whether the first n fields from the index on, if they are widths, are all at most 9,999.
+fn widths(text: &[u8], from: usize, to: usize, n: usize) -> Option<bool>
     requires { FieldsWithin text.now from to n }
     ensures { result ≡ widths_told true (field_numerals n (slice from to text.now)) }
 {
     let mut small = true;
-    let mut at = from;
-    let mut left = n;
-    while left > 0 {
-        let field = numeral(text, at, at + limits::FIELD_COLUMNS);
-        match field {
-            Field::Bad => {
-                return WidthsAnswer::Bad;
-            }
-            Field::Numeral(z) => {
-                if !is_width(z) {
-                    return WidthsAnswer::Bad;
-                }
-                small = both(small, z <= units::HUNDREDTHS_LIMIT);
-                at += limits::FIELD_COLUMNS;
-                left -= 1;
-            }
+    for k in 0..n {
+        let at = from + k * limits::FIELD_COLUMNS;
+        let z = numeral(text, at, at + limits::FIELD_COLUMNS)?;
+        if !is_width(z) {
+            return None;
         }
+        small = both(small, z <= units::HUNDREDTHS_LIMIT);
     }
-    WidthsAnswer::Small(small)
+    Some(small)
 }
 
 // The year and the n fields of the line from the one index up to the other, the decade's end and the last field tested too.
-fn numerals(text: &[u8], from: usize, end: usize, n: usize) -> LineAnswer
+fn numerals(text: &[u8], from: usize, end: usize, n: usize) -> Option<LineNumbers>
     requires { ColumnsOf text.now from end n }
     ensures { result ≡ numerals_told (slice from end text.now) n }
 {
-    let Field::Numeral(year) = numeral(
+    let year = numeral(
         text,
         from + limits::NAME_COLUMNS,
         from + limits::HEAD_COLUMNS,
-    ) else {
-        return LineAnswer::Bad;
-    };
-    let WidthsAnswer::Small(small) = widths(text, from + limits::HEAD_COLUMNS, end, n - 1) else {
-        return LineAnswer::Bad;
-    };
-    let Field::Numeral(last) = numeral(text, end - limits::FIELD_COLUMNS, end) else {
-        return LineAnswer::Bad;
-    };
+    )?;
+    let small = widths(text, from + limits::HEAD_COLUMNS, end, n - 1)?;
+    let last = numeral(text, end - limits::FIELD_COLUMNS, end)?;
     if year_in_decade(year) + n > limits::DECADE {
-        return LineAnswer::Bad;
+        return None;
     }
     if !ends_series(last) {
-        return LineAnswer::Bad;
+        return None;
     }
-    LineAnswer::Good(year, n, small, last)
+    Some(LineNumbers {
+        year,
+        count: n,
+        small,
+        last,
+    })
 }
 
 // The line from the one index up to its byte 10, or to the end of the text, tested as if it were its series' last.
-pub fn line(text: &[u8], from: usize, end: usize) -> LineAnswer
+pub fn line(text: &[u8], from: usize, end: usize) -> Option<LineNumbers>
     requires { LineEnd text.now from end }
     ensures { result ≡ line_told (good_line true (slice from (end + 1) text.now)) }
 {
     if end == text.len() {
-        return LineAnswer::Bad;
+        return None;
     }
     let size = end - from;
     if size < limits::HEAD_COLUMNS + limits::FIELD_COLUMNS {
-        return LineAnswer::Bad;
+        return None;
     }
     let n = (size - limits::HEAD_COLUMNS) / limits::FIELD_COLUMNS;
     if size != limits::HEAD_COLUMNS + n * limits::FIELD_COLUMNS {
-        return LineAnswer::Bad;
+        return None;
     }
     if n > limits::DECADE {
-        return LineAnswer::Bad;
+        return None;
     }
     if !is_name(text, from) {
-        return LineAnswer::Bad;
+        return None;
     }
     numerals(text, from, end, n)
 }

@@ -140,22 +140,3 @@ behind-nothing (some t) = refl
 pub characters_end : (n : ℕ) (bytes x : Text) → behind x (characters_masked (slice n n bytes)) ≡ some x
 unfolding characters_from
 characters_end n bytes x = ap (λ (t : Text). behind x (characters_masked t)) (slice_empty n bytes) ∙ ap some (append-nil x)
-
--- ---- a byte that follows, or not
-module _ (text : Text) (i to : ℕ) (before : i < to) (within : to ≤ length text) where
-  continue_here : all_continue (slice i to text) ≡ (in_range 128 191 (get_or text i 0) && all_continue (slice (i + 1) to text))
-  unfolding all_continue
-  continue_here = ap all_continue (slice-step i to text 0 before within)
-
-  pub continue_next : 128 ≤ get_or text i 0 → get_or text i 0 ≤ 191 → all_continue (slice i to text) ≡ all_continue (slice (i + 1) to text)
-  continue_next h k = continue_here ∙ rw (le-leb 128 (get_or text i 0) h, le-leb (get_or text i 0) 191 k)
-
-  pub continue_low : get_or text i 0 < 128 → all_continue (slice i to text) ≡ false
-  continue_low h = continue_here ∙ rw (lt-leb 128 (get_or text i 0) h)
-
-  pub continue_high : 191 < get_or text i 0 → all_continue (slice i to text) ≡ false
-  continue_high h = continue_here ∙ rw (le-leb 128 (get_or text i 0) (omega arith), lt-leb (get_or text i 0) 191 h)
-
-pub continue_end : (text : Text) (to : ℕ) → all_continue (slice to to text) ≡ true
-unfolding all_continue
-continue_end text to = ap all_continue (slice_empty to text)

@@ -32,19 +32,6 @@ masked_ascii (c ∷ t) e =
     let both = or-false (is_high c) (any_high t) e in
     ap₂ (λ (b : Bool) (u : Text). cond b question_mark c ∷ u) both.0 (masked_ascii t both.1)
 
-pub masked_append : (s t : Text) → bytes_masked (s ++ t) ≡ bytes_masked s ++ bytes_masked t
-unfolding bytes_masked
-masked_append [] t = refl
-masked_append (c ∷ s) t = ap (λ (u : Text). masked_byte c ∷ u) (masked_append s t)
-
-pub masked_one : (c : ℕ) → bytes_masked (c ∷ []) ≡ masked_byte c ∷ []
-unfolding bytes_masked
-masked_one c = refl
-
-pub masked-none : bytes_masked [] ≡ []
-unfolding bytes_masked
-masked-none = refl
-
 -- ---- the one form
 module _ (t : Text) where
   pub both_forms : (u : Text) → is_strict (bytes_masked t) ≡ true → characters_masked t ≡ some u → is_strict u ≡ true → masked t ≡ none

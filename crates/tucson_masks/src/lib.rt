@@ -33,10 +33,8 @@ pub fn mask_bytes(bytes: &[u8], n: usize, line: &mut [u8])
     requires { MaskAsks bytes.now n line.old }
     ensures { take n line.new ≡ bytes_masked (take n bytes.now) }
 {
-    let mut i = 0;
-    while i < n {
+    for i in 0..n {
         line[i] = mask(bytes[i]);
-        i += 1;
     }
 }
 
@@ -102,17 +100,9 @@ fn all_continue(text: &[u8], from: usize, to: usize) -> bool
     requires { Range text.now from to }
     ensures { result ≡ all_continue (slice from to text.now) }
 {
-    let mut i = from;
-    while i < to {
-        if text[i] < tucson_columns::HIGH {
-            return false;
-        }
-        if text[i] > LAST {
-            return false;
-        }
-        i += 1;
-    }
-    true
+    text[from..to]
+        .iter()
+        .all(|x| *x >= tucson_columns::HIGH && *x <= LAST)
 }
 
 // How many bytes the character has that begins at the index; 0 where none does.
@@ -150,6 +140,7 @@ fn mask_characters(bytes: &[u8], n: usize, line: &mut [u8]) -> usize
 {
     let mut i = 0;
     let mut count = 0;
+    // A `while`: the step is the size of the character.
     while i < n {
         let size = character_size(bytes, i, n);
         if size == 0 {

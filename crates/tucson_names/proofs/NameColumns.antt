@@ -1,18 +1,19 @@
 -- A line's columns one at a time: the byte in a column, digits up to a column, a blank inside a name, two texts compared.
 use mathlib.Core.Path.{◌≡◌, refl, sym, ◌∙◌, ap, ap₂}
 use mathlib.Core.Bool.{Bool, true, false, cond, ◌&&◌, ◌||◌, not, or-true, or-false as or-none}
-use mathlib.Core.List.{List, [], ◌∷◌}
+use mathlib.Core.List.{[], ◌∷◌}
 use Prim.Native.Nat.{ℕ, zero, suc, ◌+◌, ◌-◌, ◌<◌, ◌≤◌}
 use native.Mathlib.Numerals.{add-one}
 use native.Mathlib.Omega.{arith}
-use borrow.Author.Tests.{eq-eqb, ne_eqb, leb-true, leb-false, lt-ltb, le-ltb}
+use borrow.Author.Tests.{ne_eqb, leb-true, leb-false, lt-ltb, le-ltb}
 use lib.Dec.{eqb, leb, ltb}
-use lib.ListN.{length, get_or, drop, drop_of_length-le}
-use lib.Seq.{slice, slice_empty, drop-cons}
+use lib.ListN.{length, get_or, take, drop, drop_of_length-le}
+use lib.Pointwise.{pointwise}
+use lib.Seq.{drop-cons}
+use Rattle.std.specs.List.{list_all}
 use Rattle.base_exact.proofs.Decide.{cond_true, cond_false}
 use Rattle.base_text.specs.Bytes.{Text}
 use Rattle.base_text.specs.Numeral.{is_digit}
-use Rattle.base_text.proofs.Slice.{slice-step}
 use Rattle.spec_tucson.specs.Columns.{blank}
 use Rattle.spec_tucson.specs.Line.{all_blank}
 use Rattle.spec_tucson.specs.Shown.{unless_trailing, trimmed}
@@ -46,17 +47,28 @@ pub column-next : (i : ℕ) (t : Text) → column (i + 1) t ≡ get_or t i 0
 column-next i t = ap (λ (n : ℕ). column n t) (add-one i) ∙ column_at i t
 
 -- ---- digits
-pub digits-next : (i left : ℕ) (t : Text) → 1 ≤ left → digits_in (i + 1) left t ≡ (is_digit (get_or t i 0) && digits_in (i + 1 + 1) (left - 1) t)
+digits-next : (i n : ℕ) (t : Text) → digits_in (i + 1) (suc n) t ≡ (is_digit (get_or t i 0) && digits_in (i + 1 + 1) n t)
 unfolding digits_in
-digits-next i zero t h = absurd (omega arith)
-digits-next i (suc left) t h =
-    let e : left ≡ suc left - 1 = omega arith in
-    ap₂ (λ (c n : ℕ). is_digit c && digits_in n left t) (column-next i t) (sym (add-one (i + 1)))
-    ∙ ap (λ (k : ℕ). is_digit (get_or t i 0) && digits_in (i + 1 + 1) k t) e
+digits-next i n t = ap₂ (λ (c k : ℕ). is_digit c && digits_in k n t) (column-next i t) (sym (add-one (i + 1)))
 
-pub digits-over : (i : ℕ) (t : Text) → digits_in i 0 t ≡ true
+digits-over : (i : ℕ) (t : Text) → digits_in i 0 t ≡ true
 unfolding digits_in
 digits-over i t = refl
+
+-- the bytes of a part are digits, looked at by a call or by the definition
+pub digits_all : (from n : ℕ) (t : Text) → from + n ≤ length t
+    → list_all is_digit (take (from + n - from) (drop from t)) ≡ digits_in (from + 1) n t
+digits_all from n t h =
+    let e : from + n - from ≡ n = omega arith in
+    ap (λ (k : ℕ). list_all is_digit (take k (drop from t))) e ∙ go from n h
+  where
+    go : (from n : ℕ) → from + n ≤ length t → list_all is_digit (take n (drop from t)) ≡ digits_in (from + 1) n t
+    go from zero h = sym (digits-over (from + 1) t)
+    go from (suc n) h =
+        ap (λ (u : Text). list_all is_digit (take (suc n) u)) (drop-cons t from 0 (omega arith))
+        ∙ ap (λ (i : ℕ). is_digit (get_or t from 0) && list_all is_digit (take n (drop i t))) (sym (add-one from))
+        ∙ ap (λ (b : Bool). is_digit (get_or t from 0) && b) (go (from + 1) n (omega arith))
+        ∙ sym (digits-next from n t)
 
 pub behind_at : (i : ℕ) (t : Text) → 1 ≤ i → digits_behind i t
     ≡ cond (is_digit (get_or t (i - 1) 0)) (digits_behind (i - 1) t) (eqb (get_or t (i - 1) 0) blank || eqb (get_or t (i - 1) 0) question_mark)
@@ -70,12 +82,6 @@ behind_at (suc i) t h =
 pub behind-over : (t : Text) → digits_behind 0 t ≡ false
 unfolding digits_behind
 behind-over t = refl
-
-pub digits_no : (i left : ℕ) (t : Text) → 1 ≤ left → is_digit (get_or t i 0) ≡ false → digits_in (i + 1) left t ≡ false
-digits_no i left t h e = digits-next i left t h ∙ no_and (digits_in (i + 1 + 1) (left - 1) t) e
-
-pub digits_yes : (i left : ℕ) (t : Text) → 1 ≤ left → is_digit (get_or t i 0) ≡ true → digits_in (i + 1) left t ≡ digits_in (i + 1 + 1) (left - 1) t
-digits_yes i left t h e = digits-next i left t h ∙ yes_and e refl
 
 pub behind_yes : (i : ℕ) (t : Text) → 1 ≤ i → is_digit (get_or t (i - 1) 0) ≡ true → digits_behind i t ≡ digits_behind (i - 1) t
 behind_yes i t h e =
@@ -170,41 +176,31 @@ unfolding inside trimmed all_blank any_blank
 inside_end true = refl
 inside_end false = refl
 
--- the same of a part of a text
-module _ (t : Text) (i to : ℕ) (before : i < to) (within : to ≤ length t) where
-  inside-here : (seen : Bool) → inside seen (slice i to t) ≡ inside seen (get_or t i 0 ∷ slice (i + 1) to t)
-  inside-here seen = ap (inside seen) (slice-step i to t 0 before within)
+-- the same of the rest of a text
+module _ (t : Text) (i : ℕ) (within : i < length t) where
+  inside-here : (seen : Bool) → inside seen (drop i t) ≡ inside seen (get_or t i 0 ∷ drop (i + 1) t)
+  inside-here seen = ap (inside seen) (drop-cons t i 0 within) ∙ ap (λ (n : ℕ). inside seen (get_or t i 0 ∷ drop n t)) (sym (add-one i))
 
-  pub inside-blank_at : (seen : Bool) → get_or t i 0 ≡ blank → inside seen (slice i to t) ≡ inside true (slice (i + 1) to t)
-  inside-blank_at seen e = inside-here seen ∙ ap (λ (c : ℕ). inside seen (c ∷ slice (i + 1) to t)) e ∙ inside-blank seen (slice (i + 1) to t)
+  pub inside-blank_at : (seen : Bool) → get_or t i 0 ≡ blank → inside seen (drop i t) ≡ inside true (drop (i + 1) t)
+  inside-blank_at seen e = inside-here seen ∙ ap (λ (c : ℕ). inside seen (c ∷ drop (i + 1) t)) e ∙ inside-blank seen (drop (i + 1) t)
 
-  pub inside_other_at : (get_or t i 0 ≡ blank → ⊥) → inside false (slice i to t) ≡ inside false (slice (i + 1) to t)
-  inside_other_at h = inside-here false ∙ inside_other (get_or t i 0) (slice (i + 1) to t) (ne_eqb _ _ h)
+  pub inside_other_at : (get_or t i 0 ≡ blank → ⊥) → inside false (drop i t) ≡ inside false (drop (i + 1) t)
+  inside_other_at h = inside-here false ∙ inside_other (get_or t i 0) (drop (i + 1) t) (ne_eqb _ _ h)
 
-  pub inside-found_at : (get_or t i 0 ≡ blank → ⊥) → inside true (slice i to t) ≡ true
-  inside-found_at h = inside-here true ∙ inside_found (get_or t i 0) (slice (i + 1) to t) (ne_eqb _ _ h)
+  pub inside-found_at : (get_or t i 0 ≡ blank → ⊥) → inside true (drop i t) ≡ true
+  inside-found_at h = inside-here true ∙ inside_found (get_or t i 0) (drop (i + 1) t) (ne_eqb _ _ h)
 
-pub inside-over : (seen : Bool) (t : Text) (to : ℕ) → inside seen (slice to to t) ≡ false
-inside-over seen t to = ap (inside seen) (slice_empty to t) ∙ inside_end seen
+pub inside-over : (seen : Bool) (t : Text) (i : ℕ) → length t ≤ i → inside seen (drop i t) ≡ false
+inside-over seen t i h = ap (inside seen) (drop_of_length-le t h) ∙ inside_end seen
 
 pub inside_all : (t : Text) → inside false t ≡ any_blank (trimmed t)
 unfolding inside
 inside_all t = or-none (any_blank (trimmed t))
 
 -- ---- two texts
-pub same_over : (a b : Text) (i : ℕ) → length a ≤ i → length b ≤ i → same_text (drop i a) (drop i b) ≡ true
+pub same_by_bytes : (a b : Text) → pointwise eqb a b ≡ same_text a b
 unfolding same_text
-same_over a b i h k = ap₂ same_text (drop_of_length-le a h) (drop_of_length-le b k)
-
-module _ (a b : Text) (i : ℕ) (first : i < length a) (second : i < length b) where
-  same_here : same_text (drop i a) (drop i b) ≡ (eqb (get_or a i 0) (get_or b i 0) && same_text (drop (i + 1) a) (drop (i + 1) b))
-  unfolding same_text
-  same_here =
-      ap₂ same_text (drop-cons a i 0 first) (drop-cons b i 0 second)
-      ∙ ap (λ (n : ℕ). eqb (get_or a i 0) (get_or b i 0) && same_text (drop n a) (drop n b)) (sym (add-one i))
-
-  pub same_next : get_or a i 0 ≡ get_or b i 0 → same_text (drop i a) (drop i b) ≡ same_text (drop (i + 1) a) (drop (i + 1) b)
-  same_next e = same_here ∙ yes_and (eq-eqb _ _ e) refl
-
-  pub same_differs : (get_or a i 0 ≡ get_or b i 0 → ⊥) → same_text (drop i a) (drop i b) ≡ false
-  same_differs h = same_here ∙ no_and _ (ne_eqb _ _ h)
+same_by_bytes [] [] = refl
+same_by_bytes [] (d ∷ ds) = refl
+same_by_bytes (c ∷ cs) [] = refl
+same_by_bytes (c ∷ cs) (d ∷ ds) = ap (λ (b : Bool). eqb c d && b) (same_by_bytes cs ds)

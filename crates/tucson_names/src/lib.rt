@@ -33,16 +33,7 @@ fn digits_in(line: &[u8], from: usize, n: usize) -> bool
     requires { from + n ≤ length line.now }
     ensures { result ≡ digits_in (from + 1) n line.now }
 {
-    let mut i = from;
-    let mut left = n;
-    while left > 0 {
-        if !is_digit(line[i]) {
-            return false;
-        }
-        i += 1;
-        left -= 1;
-    }
-    true
+    line[from..from + n].iter().all(|c| is_digit(*c))
 }
 
 // Whether a sign stands in the name's last column, or a year of five columns behind a sign or a blank.
@@ -71,12 +62,10 @@ fn digits_behind(line: &[u8], n: usize) -> bool
     requires { n ≤ length line.now }
     ensures { result ≡ digits_behind n line.now }
 {
-    let mut i = n;
-    while i > 0 {
-        if !is_digit(line[i - 1]) {
-            return tucson_lines::either(line[i - 1] == b' ', line[i - 1] == b'?');
+    for i in (0..n).rev() {
+        if !is_digit(line[i]) {
+            return tucson_lines::either(line[i] == b' ', line[i] == b'?');
         }
-        i -= 1;
     }
     false
 }
@@ -98,16 +87,14 @@ fn blank_inside(line: &[u8]) -> bool
     ensures { result ≡ blank_inside line.now }
 {
     let mut seen = false;
-    let mut i = 0;
-    while i < limits::NAME_COLUMNS {
-        if line[i] == b' ' {
+    for c in &line[..limits::NAME_COLUMNS] {
+        if *c == b' ' {
             seen = true;
         } else {
             if seen {
                 return true;
             }
         }
-        i += 1;
     }
     false
 }
@@ -147,15 +134,5 @@ pub fn runs_in(line: &[u8], alone: bool) -> bool
 pub fn same_text(a: &[u8], b: &[u8]) -> bool
     ensures { result ≡ same_text a.now b.now }
 {
-    if a.len() != b.len() {
-        return false;
-    }
-    let mut i = 0;
-    while i < a.len() {
-        if a[i] != b[i] {
-            return false;
-        }
-        i += 1;
-    }
-    true
+    a == b
 }

@@ -2,10 +2,10 @@
 use mathlib.Core.Path.{◌≡◌, refl, sym, ◌∙◌, ap, ap₂}
 use mathlib.Core.Bool.{Bool, true, false, cond, ◌&&◌, ◌||◌, not, and-false}
 use mathlib.Core.List.{List, [], ◌∷◌, ◌++◌, drop_last, append_assoc}
-use Prim.Native.Nat.{ℕ, suc, ◌+◌, ◌-◌, ◌<◌, ◌≤◌}
+use Prim.Native.Nat.{ℕ, ◌+◌, ◌-◌, ◌≤◌}
 use native.Mathlib.Omega.{arith}
-use borrow.Author.Tests.{le-leb, lt-leb}
-use lib.Dec.{eqb, leb}
+use borrow.Author.Tests.{le-leb}
+use lib.Dec.{leb}
 use lib.IntN.{ℤ, pos}
 use lib.ListN.{length, take, get_or}
 use Rattle.base_exact.proofs.Decide.{clash}
@@ -17,7 +17,7 @@ use Rattle.spec_tucson.specs.Line.{field_columns, same, thousandths}
 use Rattle.spec_tucson.specs.CleanSeries.{closing_of}
 use Rattle.spec_tucson.specs.Series.{hundredths}
 use Rattle.spec_tucson.specs.TextReading.{last_field}
-use Rattle.spec_tucson.specs.CleanNotes.{Ahead, note_if, at_line, is_empty, begins_absent, ends_with, has_last_width, is_absent_end, is_like_closing, remarks, widths_in, is_other_unit}
+use Rattle.spec_tucson.specs.CleanNotes.{Ahead, note_if, at_line, is_empty, begins_absent, ends_with, has_last_width, is_absent_end, is_like_closing}
 use Rattle.tucson_notes.specs.Machine.{SumsUp, widths_on, shown_marked, form_marked, marked, strict_put}
 use Rattle.tucson_notes.specs.declared.Fields as machine
 use Rattle.tucson_notes.specs.declared.Marks as marks

@@ -1,5 +1,5 @@
 -- The fields of a strict line: how many there are, and where the first, the last and the one before it stand.
-use mathlib.Core.Path.{◌≡◌, refl, sym, ◌∙◌, ap, ap₂}
+use mathlib.Core.Path.{◌≡◌, refl, sym, ◌∙◌, ap}
 use mathlib.Core.Bool.{Bool, true, false, cond, ◌&&◌}
 use mathlib.Core.List.{List, [], ◌∷◌, ◌++◌, drop_last}
 use mathlib.Core.Option.{Option, some, none}
@@ -12,9 +12,9 @@ use lib.ListN.{length, take, drop, get_or}
 use lib.Seq.{slice, drop-drop, length-take-le}
 use Rattle.base_exact.proofs.Decide.{clash, and-true}
 use Rattle.base_text.specs.Bytes.{Text}
-use Rattle.base_text.proofs.Slice.{slice_take, take_slice, drop-slice}
+use Rattle.base_text.proofs.Slice.{take_slice}
 use Rattle.spec_tucson.specs.Columns.{in_columns}
-use Rattle.spec_tucson.specs.Line.{Line, name_columns, year_columns, head_columns, field_columns, decade, with_field, field_numerals, field_count, columns_fit, is_name, with_numerals, line_in_columns}
+use Rattle.spec_tucson.specs.Line.{name_columns, year_columns, head_columns, field_columns, decade, with_field, field_numerals, field_count, columns_fit, is_name, with_numerals, line_in_columns}
 use Rattle.spec_tucson.specs.TextReading.{last_field}
 use Rattle.spec_tucson.specs.StrictLine.{is_some, is_strict}
 use Rattle.spec_tucson.specs.CleanSeries.{fields_in, fields_of}

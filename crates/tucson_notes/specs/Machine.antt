@@ -1,5 +1,5 @@
 -- The machine's form of a line's fields and of what stands ahead in its series.
-use Rattle.std.specs.Prelude.{Bool, true, false, cond, not, ◌≡◌, ℕ, ◌+◌, ◌-◌, ◌*◌, ◌^◌, ◌<◌, ◌≤◌, ltb, ℤ, pos, length, take, get_or}
+use Rattle.std.specs.Prelude.{Bool, true, cond, not, ◌≡◌, ℕ, ◌+◌, ◌-◌, ◌*◌, ◌^◌, ◌<◌, ◌≤◌, ltb, ℤ, pos, length, take, get_or}
 use mathlib.Core.List.{List, [], ◌++◌, drop_last}
 use Rattle.std.proofs.Math.Option.{Option, some, none}
 use Rattle.std.proofs.Math.Seq.{slice}
@@ -9,7 +9,7 @@ use Rattle.spec_tucson.specs.Columns.{in_columns, columns}
 use Rattle.spec_tucson.specs.Line.{head_columns, field_columns}
 use Rattle.spec_tucson.specs.TextReading.{last_field}
 use Rattle.spec_tucson.specs.StrictLine.{is_strict, line_columns}
-use Rattle.spec_tucson.specs.CleanSeries.{fields_of, closing_of, with_end}
+use Rattle.spec_tucson.specs.CleanSeries.{closing_of, with_end}
 use Rattle.spec_tucson.specs.CleanNotes.{Ahead, widths_in, is_empty, is_absent_end, is_like_closing, remarks, note_if, at_line}
 use Rattle.tucson_notes.specs.declared.Ending as machine-ending
 use Rattle.tucson_notes.specs.declared.Fields as machine-fields

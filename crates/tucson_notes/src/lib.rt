@@ -15,7 +15,6 @@ ghost use Rattle.tucson_notes.specs.Machine.{TellsWidth, TellsAbsent, TellsLike,
 ghost use Rattle.tucson_notes.specs.Machine.{shown_marked, form_marked, PutsMarks, StrictAsks, bytes_per_line, strict_put};
 
 use base_outcome::limits;
-use base_text::numeral::Field;
 use tucson_lines::units;
 
 // The most bytes that a line of the file takes in the strict text: `bytes_per_line` of specs/Machine.
@@ -93,11 +92,7 @@ fn field(line: &[u8], from: usize) -> i32
     requires { from + field_columns ≤ length line.now }
     ensures { result ≡ number_in (in_columns (slice from (from + field_columns) line.now)) }
 {
-    let found = tucson_lines::numeral(line, from, from + limits::FIELD_COLUMNS);
-    match found {
-        Field::Bad => 0,
-        Field::Numeral(z) => z,
-    }
+    tucson_lines::numeral(line, from, from + limits::FIELD_COLUMNS).unwrap_or(0)
 }
 
 // The field before the last of a line with so many fields and this first one, which ends at this index; 0 where there is one alone.
@@ -281,12 +276,9 @@ fn put_bytes(out: &mut [u8], at: usize, line: &[u8]) -> usize
     if out.len() - at < line.len() {
         return base_print::put_text(out, at, line);
     }
-    let mut i = 0;
-    while i < line.len() {
-        out[at + i] = line[i];
-        i += 1;
-    }
-    at + line.len()
+    let end = at + line.len();
+    out[at..end].copy_from_slice(line);
+    end
 }
 
 // The closing of the unit that the caller says.

@@ -7,7 +7,7 @@ use native.Mathlib.Numerals.{add-one}
 use native.Mathlib.Omega.{arith}
 use lib.IntN.{ℤ, pos}
 use lib.ListN.{length, get_or, take}
-use lib.Seq.{take-suc, take_all, length-take-le}
+use lib.Seq.{take-suc, length-take-le}
 use Rattle.base_text.specs.Bytes.{Text}
 use Rattle.base_text.specs.Numeral.{decimal}
 use Rattle.spec_tucson.specs.Columns.{columns}
@@ -38,9 +38,6 @@ fields_more ws i h =
     ∙ ap fields_text (take-suc ws i (pos 0) h)
     ∙ fields_append (take i ws) (get_or ws i (pos 0) ∷ [])
     ∙ ap (λ (t : Text). fields_text (take i ws) ++ t) (fields_one (get_or ws i (pos 0)))
-
-pub fields_all : (ws : List ℤ) (i : ℕ) → length ws ≤ i → fields_text (take i ws) ≡ fields_text ws
-fields_all ws i h = ap fields_text (take_all i ws h)
 
 -- ---- parts of allowed widths are allowed
 

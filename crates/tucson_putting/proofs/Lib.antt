@@ -2,3 +2,4 @@
 pub mod Wrote
 pub mod Fields
 pub mod Lines
+pub mod AllPut

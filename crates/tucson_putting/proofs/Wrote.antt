@@ -1,9 +1,8 @@
 -- Laws of a text written into the buffer: one behind another, and a whole text from the beginning on.
-use mathlib.Core.Path.{◌≡◌, refl, sym, ap, ◌∙◌}
+use mathlib.Core.Path.{◌≡◌, sym, ap, ◌∙◌}
 use mathlib.Core.Logic.{◌⊎◌, inl, inr}
-use mathlib.Core.List.{List, [], ◌∷◌, ◌++◌}
-use Prim.Native.Nat.{ℕ, zero, suc, ◌+◌, ◌-◌, ◌<◌, ◌≤◌}
-use native.Mathlib.Numerals.{add-one}
+use mathlib.Core.List.{List, [], ◌++◌}
+use Prim.Native.Nat.{ℕ, ◌+◌, ◌-◌, ◌<◌, ◌≤◌}
 use native.Mathlib.Omega.{arith}
 use lib.ListN.{length, get_or, drop, replicate, length-append, length-drop, length-replicate, get_or-append}
 use lib.Seq.{ext_get_or, get_or-append-add, get_or-drop}
@@ -63,13 +62,5 @@ module _ (t : Text) (out : List ℕ) (fits : length t ≤ length out) where
       (λ k h. whole-cell k (omega (arith, written_length 0 t out)))
 
 -- ---- blanks
-
-pub blanks_more : (i : ℕ) → replicate i blank ++ (blank ∷ []) ≡ replicate (i + 1) blank
-blanks_more i = rw add-one (go i)
-  where
-    go : (n : ℕ) → replicate n blank ++ (blank ∷ []) ≡ replicate (suc n) blank
-    go zero = refl
-    go (suc n) = ap (λ (t : Text). blank ∷ t) (go n)
-
 pub blanks_all : (n : ℕ) → length (replicate n blank) ≡ n
 blanks_all n = length-replicate n blank

@@ -19,13 +19,9 @@ fn put_blanks(text: &mut [u8], at: usize, count: usize) -> usize
     requires { at + count ≤ length text.old }
     ensures { Wrote at (replicate count blank) text.old text.new result }
 {
-    let mut next = at;
-    let mut i = 0;
-    while i < count {
-        next = base_print::put(text, next, b' ');
-        i += 1;
-    }
-    next
+    let end = at + count;
+    text[at..end].fill(b' ');
+    end
 }
 
 // How many bytes a number has.
@@ -57,10 +53,8 @@ fn put_fields(text: &mut [u8], at: usize, widths: &[i32]) -> usize
     ensures { Wrote at (fields_text widths.now) text.old text.new result }
 {
     let mut next = at;
-    let mut i = 0;
-    while i < widths.len() {
-        next = put_columns(text, next, limits::FIELD_COLUMNS, widths[i]);
-        i += 1;
+    for width in widths {
+        next = put_columns(text, next, limits::FIELD_COLUMNS, *width);
     }
     next
 }
@@ -113,6 +107,7 @@ fn put_series(text: &mut [u8], at: usize, name: &[u8], first: i32, widths: &[i32
     let mut next = at;
     let mut left = tucson_series::writable::years_left(first);
     let mut from = 0;
+    // A `while`: the step is what is left of the decade.
     while widths.len() - from > left % limits::DECADE {
         let to = from + left % limits::DECADE + 1;
         let year = year_at(left);
@@ -139,14 +134,12 @@ pub fn put_all(
     let mut next = 0;
     let mut at = 0;
     let mut from = 0;
-    let mut k = 0;
-    while k < years.len() {
+    for (year, count) in years.iter().zip(counts) {
         let end = at + limits::NAME_COLUMNS;
-        let to = from + counts[k] as usize;
-        next = put_series(text, next, &names[at..end], years[k], &widths[from..to]);
+        let to = from + *count as usize;
+        next = put_series(text, next, &names[at..end], *year, &widths[from..to]);
         at = end;
         from = to;
-        k += 1;
     }
     next
 }

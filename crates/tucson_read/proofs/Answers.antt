@@ -1,5 +1,5 @@
 -- What the read call ends with, from what the first pass found and the second wrote.
-use mathlib.Core.Path.{◌≡◌, refl, sym, ◌∙◌, ap, ap₂, subst}
+use mathlib.Core.Path.{◌≡◌, refl, sym, ◌∙◌, ap, subst}
 use mathlib.Core.Bool.{Bool, true, false, cond, ◌&&◌, and-false}
 use mathlib.Core.List.{List, [], ◌∷◌}
 use mathlib.Core.Option.{Option, none}
@@ -10,6 +10,7 @@ use lib.Dec.{leb}
 use lib.IntN.{ℤ}
 use lib.ListN.{length, length-append, length-map}
 use lib.Seq.{sets}
+use Rattle.std.specs.Prelude.{Result, Ok, Err}
 use Rattle.base_exact.proofs.Decide.{clash}
 use Rattle.base_outcome.specs.Outcome.{Outcome, answer, refusal, capped, with_answer, ◌then◌}
 use Rattle.base_outcome.proofs.Outcome.{answer_unique}
@@ -21,32 +22,30 @@ use Rattle.spec_tucson.specs.ReadCall.{names_of, years_of, counts_of, widths_of,
 use Rattle.tucson_lines.proofs.GoodLines.{good-name, name_length}
 use Rattle.tucson_scan.specs.Scan.{scan_told}
 use Rattle.tucson_read.specs.Write.{series_in, WriteAsks, Written}
-use Rattle.base_outcome.specs.Machine.{reply}
-use Rattle.base_outcome.specs.declared.Answer.{Answer}
-use Rattle.base_outcome.specs.declared.Answer.TheVariants as answer-cases
-use Rattle.tucson_scan.specs.declared.Scanned.TheVariants as scanned-cases
+use Rattle.base_outcome.specs.Machine.{refused, reply}
+use Rattle.base_outcome.specs.declared.Refusal.{Refusal}
+use Rattle.tucson_scan.specs.declared.Totals.{Totals}
 use Rattle.tucson_read.proofs.Sets.{sets-front}
 use Rattle.tucson_read.proofs.Writes.{turn_more, turn_last}
 
 -- ---- what the first pass says
-pub scan_refused : (o : Outcome (List Series)) (code place : ℕ) → scanned-cases.Refused code place ≡ scan_told 0 0 o → o ≡ refusal code place
+pub scan_refused : (o : Outcome (List Series)) {r : Refusal} → Err r ≡ scan_told 0 0 o → o ≡ refusal r.code r.place
 unfolding scan_told
-scan_refused (answer ss) code place e = clash cc
-scan_refused (refusal n p) code place e = let a : n ≡ code = cc in let b : p ≡ place = cc in ap₂ refusal a b
+scan_refused (answer ss) e = clash cc
+scan_refused (refusal n p) {r} e = let is : refused n p ≡ r = cc in ap (λ q. refusal q.code q.place) is
 
-pub record Found (o : Outcome (List Series)) (series total : ℕ) : Type 0 where
+pub record Found (o : Outcome (List Series)) (totals : Totals) : Type 0 where
   pub list : List Series
   pub is : o ≡ answer list
-  pub series_is : length list ≡ series
-  pub total_is : length (widths_of list) ≡ total
+  pub series_is : length list ≡ totals.series
+  pub widths_is : length (widths_of list) ≡ totals.widths
 
-pub scan-found : (o : Outcome (List Series)) (series total : ℕ) → scanned-cases.Totals series total ≡ scan_told 0 0 o → Found o series total
+pub scan-found : (o : Outcome (List Series)) {totals : Totals} → Ok totals ≡ scan_told 0 0 o → Found o totals
 unfolding scan_told
-scan-found (answer ss) series total e =
-    let a : 0 + length ss ≡ series = cc in
-    let b : 0 + length (widths_of ss) ≡ total = cc in
-    record { list = ss; is = refl; series_is = omega arith; total_is = omega arith }
-scan-found (refusal n p) series total e = clash cc
+scan-found (answer ss) {totals} e =
+    let is : record { series = 0 + length ss; widths = 0 + length (widths_of ss) } ≡ totals = cc in
+    record { list = ss; is = refl; series_is = omega (arith, ap (λ t. t.series) is); widths_is = omega (arith, ap (λ t. t.widths) is) }
+scan-found (refusal n p) e = clash cc
 
 -- ---- eight bytes a name
 abbrev EightEach : List Series → Type 0
@@ -102,21 +101,21 @@ module _ (given : Given) where
   outcome = read_outcome text (length names) (length years) (length counts) (length widths)
 
   -- The answer and the four buffers, as the definition of the call gives them.
-  abbrev Ends : Answer → List ℕ → List ℤ → List ℕ → List ℤ → Type 0
+  abbrev Ends : Result ℕ Refusal → List ℕ → List ℤ → List ℕ → List ℤ → Type 0
   Ends r ns ys cs ws =
       (reply r ≡ with_answer length outcome)
       × ((ns ≡ filled names_of outcome names)
       × ((ys ≡ filled years_of outcome years) × ((cs ≡ filled counts_of outcome counts) × (ws ≡ filled widths_of outcome widths))))
 
-  ends_refused : (code place : ℕ) → outcome ≡ refusal code place → Ends (answer-cases.Refused code place) names years counts widths
-  unfolding reply filled
+  ends_refused : (code place : ℕ) → outcome ≡ refusal code place → Ends (Err (refused code place)) names years counts widths
+  unfolding filled
   ends_refused code place e = rw e (refl, (refl, (refl, (refl, refl))))
 
   -- what is answered where the text reads so
   abbrev ended_by : Outcome (List Series) → Outcome (List Series)
   ended_by o = o then λ ss. cond (room_for ss (length names) (length years) (length counts) (length widths)) (answer ss) (refusal 1 (capped 0))
 
-  pub read_refused : {code place : ℕ} → read_text text ≡ refusal code place → Ends (answer-cases.Refused code place) names years counts widths
+  pub read_refused : {code place : ℕ} → read_text text ≡ refusal code place → Ends (Err (refused code place)) names years counts widths
   unfolding read_outcome
   read_refused {code} {place} e = ends_refused code place (ap ended_by e)
 
@@ -130,7 +129,7 @@ module _ (given : Given) where
         ap ended_by e
         ∙ ap (λ (r : Bool). cond r (answer ss) (refusal 1 (capped 0))) k
 
-    read_short : room ≡ false → Ends (answer-cases.Refused 1 0) names years counts widths
+    read_short : room ≡ false → Ends (Err (refused 1 0)) names years counts widths
     unfolding capped
     read_short k = ends_refused 1 0 (outcome_is false k)
 
@@ -146,11 +145,11 @@ module _ (given : Given) where
     unfolding counts_of
     counts-size = length-map ss _
 
-    pub short-names : length names / name_columns < length ss → Ends (answer-cases.Refused 1 0) names years counts widths
+    pub short-names : length names / name_columns < length ss → Ends (Err (refused 1 0)) names years counts widths
     unfolding room_for
     short-names h = read_short (rw (lt-leb (length (names_of ss)) (length names) (omega (arith, names-size))))
 
-    pub short_years : length years < length ss → Ends (answer-cases.Refused 1 0) names years counts widths
+    pub short_years : length years < length ss → Ends (Err (refused 1 0)) names years counts widths
     unfolding room_for
     short_years h =
         read_short (rw (
@@ -158,7 +157,7 @@ module _ (given : Given) where
           and-false (leb (length (names_of ss)) (length names)),
         ))
 
-    pub short-counts : length counts < length ss → Ends (answer-cases.Refused 1 0) names years counts widths
+    pub short-counts : length counts < length ss → Ends (Err (refused 1 0)) names years counts widths
     unfolding room_for
     short-counts h =
         read_short (rw (
@@ -166,7 +165,7 @@ module _ (given : Given) where
           and-false (leb (length (names_of ss)) (length names) && leb (length (years_of ss)) (length years)),
         ))
 
-    pub short_widths : length widths < length (widths_of ss) → Ends (answer-cases.Refused 1 0) names years counts widths
+    pub short_widths : length widths < length (widths_of ss) → Ends (Err (refused 1 0)) names years counts widths
     unfolding room_for
     short_widths h =
         read_short (rw (
@@ -194,8 +193,8 @@ module _ (given : Given) where
       write-ready = record { good = rw e; names_fit = rw e long_names; years-fit = rw e hy; counts_fit = rw e hc; widths_fit = rw e hw }
 
       pub read-answers : {series : ℕ} → length ss ≡ series → {ns : List ℕ} {ys : List ℤ} {cs : List ℕ} {ws : List ℤ}
-          → Written text names years counts widths ns ys cs ws → Ends (answer-cases.Count series) ns ys cs ws
-      unfolding reply filled
+          → Written text names years counts widths ns ys cs ws → Ends (Ok series) ns ys cs ws
+      unfolding filled
       read-answers k w =
           rw (outcome_is true enough) (
             ap answer (sym k),

@@ -1,13 +1,17 @@
 -- A list stored into a buffer from an index on (`sets`): one list after another, a list over another, a list that is there
 -- already, and what a part of the buffer then is.
 use mathlib.Core.Path.{◌≡◌, refl, sym, ◌∙◌, ap, ap₂}
-use mathlib.Core.List.{List, [], ◌∷◌, ◌++◌}
-use Prim.Native.Nat.{ℕ, zero, suc, ◌+◌, ◌<◌, ◌≤◌}
+use mathlib.Core.List.{List, [], ◌∷◌, ◌++◌, append_assoc}
+use Prim.Native.Nat.{ℕ, zero, suc, ◌+◌, ◌-◌, ◌≤◌}
 use native.Mathlib.Nat.{add-zero, add-suc, suc-add, zero-add}
 use native.Mathlib.Omega.{arith}
+use borrow.Rule.Slice.PartMut.{put_mid}
 use lib.ListN.{length, get_or, take, drop, set, length-append}
-use lib.Seq.{slice, sets, sets-eq, length-sets, take-set-le, take-set-lt, drop-set-lt, take_at, drop-append-le, length-take-le}
+use lib.Seq.{slice, sets, sets-eq, length-sets, take-set-le, drop-set-lt, take_at, drop-append-le, length-take-le}
 use lib.Seq.{set-get_or, slice-cons, slice_empty}
+use Rattle.std.proofs.lemmas.List.Edits.{paste_all}
+use Rattle.std.proofs.lemmas.Slice.{put_mid-paste}
+use Rattle.base_text.proofs.Slice.{slice_take}
 
 module _ {A : Type 0} where
   pub sets_append : (l : List A) (i : ℕ) (xs ys : List A) → sets l i (xs ++ ys) ≡ sets (sets l i xs) (i + length xs) ys
@@ -55,6 +59,17 @@ module _ {A : Type 0} where
           ∙ ap (λ (e : ℕ). sets l (suc i) (slice (suc i) e l)) n
           ∙ ih
 
+  -- a part as the machine lends it
+  pub part_is : (from to : ℕ) (l : List A) → from ≤ to → take (to - from) (drop from l) ≡ slice from to l
+  part_is from to l h = sym (slice_take from (to - from) l) ∙ ap (λ (n : ℕ). slice from n l) (let e : from + (to - from) ≡ to = omega arith in e)
+
+  -- a copy to a part
+  pub sets_copy : (l : List A) (at k : ℕ) (xs copy : List A) → at + length xs ≤ length l → length xs ≡ k → copy ≡ xs → put_mid at k l copy ≡ sets l at xs
+  sets_copy l at k xs copy h n e =
+      put_mid-paste at k l copy xs (length xs) e n refl
+      ∙ paste_all l at xs (length xs) refl
+      ∙ sym (sets-eq xs l at h ∙ append_assoc (take at l) xs (drop (at + length xs) l))
+
   -- one element more
   pub sets-next : (l : List A) (at i : ℕ) (x : A) (xs : List A) → sets l (at + i) (x ∷ xs) ≡ sets (set l (at + i) x) (at + (i + 1)) xs
   sets-next l at i x xs = let e : suc (at + i) ≡ at + (i + 1) = omega arith in ap (λ (k : ℕ). sets (set l (at + i) x) k xs) e
@@ -62,7 +77,3 @@ module _ {A : Type 0} where
   -- at the front of a buffer
   pub sets-front : (l xs : List A) → length xs ≤ length l → sets l 0 xs ≡ xs ++ drop (length xs) l
   sets-front l xs h = sets-eq xs l 0 (omega arith) ∙ ap (λ (k : ℕ). xs ++ drop k l) (zero-add (length xs))
-
-  -- a store before a part leaves the part
-  pub slice_set : (l : List A) (i to : ℕ) (x : A) → i < to → slice (i + 1) to (set l i x) ≡ slice (i + 1) to l
-  slice_set l i to x h = ap (drop (i + 1)) (take-set-lt to l i x h) ∙ drop-set-lt (i + 1) (take to l) i x (omega arith)

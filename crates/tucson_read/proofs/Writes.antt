@@ -10,6 +10,7 @@ use native.Mathlib.Omega.{arith}
 use lib.IntN.{ℤ, pos, nat_abs, ◌+ℤ◌}
 use lib.ListN.{length, drop, set, length-append, length-set, drop_of_length-le}
 use lib.Seq.{slice, sets, length-sets, length-slice, slice_empty}
+use Rattle.std.specs.Prelude.{Some}
 use Rattle.base_exact.proofs.Decide.{and-true, true_not_false, clash}
 use Rattle.base_exact.proofs.Integer.{bal_+, abs-parts}
 use Rattle.base_outcome.specs.Outcome.{Outcome, answer, ◌then◌}
@@ -22,8 +23,7 @@ use Rattle.spec_tucson.specs.TextReading.{Begun, begun_by, goes_on, next_year, y
 use Rattle.spec_tucson.specs.TextReading.{read_line, after, read_lines, read_text}
 use Rattle.spec_tucson.specs.ReadCall.{names_of, years_of, counts_of, widths_of}
 use Rattle.spec_tucson.specs.Writing.{all_widths}
-use Rattle.tucson_lines.specs.Machine.{LineEnd, line_told}
-use Rattle.tucson_lines.specs.declared.LineAnswer.TheVariants.{Good}
+use Rattle.tucson_lines.specs.Machine.{LineEnd, numbers, line_told}
 use Rattle.tucson_lines.proofs.Lines.{end_within, lines_step}
 use Rattle.tucson_lines.proofs.GoodLines.{GoodLine, good-line}
 use Rattle.tucson_lines.proofs.LineNumerals.{fields-front}
@@ -219,19 +219,6 @@ module _ {text names-end : List ℕ} {years-end : List ℤ} {counts_end : List �
   abbrev b : Option Begun
   b = now.series-begun
 
-  -- the buffers keep their lengths
-  pub names-kept : length names ≡ length names-end
-  names-kept = sym (ap length now.names-left ∙ length-sets names (series * name_columns) (names_of now.rest))
-
-  pub years_kept : length years ≡ length years-end
-  years_kept = sym (ap length now.years-left ∙ length-sets years series (years_of now.rest))
-
-  pub counts-kept : length counts ≡ length counts_end
-  counts-kept = sym (ap length now.counts-left ∙ length-sets counts series (counts_of now.rest))
-
-  pub widths_kept : length widths ≡ length widths_end
-  widths_kept = sym (ap length now.widths_left ∙ length-sets widths start (widths_of now.rest))
-
   -- ---- at the end
   pub writes_end : length text ≤ from → Ended names-end years-end counts_end widths_end names years counts widths
   unfolding read_lines lines_of names_of years_of counts_of widths_of
@@ -264,7 +251,7 @@ module _ {text names-end : List ℕ} {years-end : List ℤ} {counts_end : List �
         go true k = clash (cc (turn_more now.place b t later-lines now.rest lines-read k).good)
         go false k = clash (cc (turn_last now.place b t later-lines now.rest lines-read k).good)
 
-    module _ {year : ℤ} {n : ℕ} {front : Bool} {last : ℤ} (told : line_told (good_line true t) ≡ Good year n front last) where
+    module _ {year : ℤ} {n : ℕ} {front : Bool} {last : ℤ} (told : line_told (good_line true t) ≡ Some (numbers year n front last)) where
       abbrev fields-text : Text
       fields-text = slice (from + 12) end text
 

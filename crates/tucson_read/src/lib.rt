@@ -12,34 +12,22 @@ ghost use Rattle.tucson_read.specs.Write.{Written};
 ghost use Rattle.spec_tucson.specs.ReadCall.{read_end};
 ghost use Rattle.base_outcome.specs.Machine.{reply};
 
-use base_outcome::{Answer, codes, limits};
-use base_text::numeral::Field;
-use tucson_lines::{LineAnswer, units};
-use tucson_scan::Scanned;
+use base_outcome::{Refusal, codes, limits};
+use tucson_lines::units;
 
 // Thousandths in a hundredth.
 const PER_HUNDREDTH: i32 = 10;
 
-// Writes the numbers of n fields from the index on. Each is a number, so the bad case is never met.
+// Writes the numbers of n fields from the index on. Each is a number.
 fn fill(text: &[u8], from: usize, to: usize, n: usize, widths: &mut [i32], at: usize)
     requires { FieldsAt text.now from to n at (length widths.old) }
     ensures { widths.new
         ≡ sets widths.old at (numerals_of (field_numerals n (slice from to text.now))) }
 {
-    let mut i = 0;
-    let mut start = from;
-    while i < n {
+    for i in 0..n {
+        let start = from + i * limits::FIELD_COLUMNS;
         let field = tucson_lines::numeral(text, start, start + limits::FIELD_COLUMNS);
-        match field {
-            Field::Bad => {
-                return;
-            }
-            Field::Numeral(z) => {
-                widths[at + i] = z;
-                start += limits::FIELD_COLUMNS;
-                i += 1;
-            }
-        }
+        widths[at + i] = field.unwrap();
     }
 }
 
@@ -48,11 +36,8 @@ fn copy_name(text: &[u8], from: usize, names: &mut [u8], at: usize)
     requires { NameAt text.now from names.old at }
     ensures { names.new ≡ sets names.old at (slice from (from + name_columns) text.now) }
 {
-    let mut i = 0;
-    while i < limits::NAME_COLUMNS {
-        names[at + i] = text[from + i];
-        i += 1;
-    }
+    let name = &text[from..from + limits::NAME_COLUMNS];
+    names[at..at + limits::NAME_COLUMNS].copy_from_slice(name);
 }
 
 // Hundredths become thousandths, from the one index up to the other.
@@ -60,11 +45,8 @@ fn scale(widths: &mut [i32], from: usize, to: usize)
     requires { WidthsAt widths.old from to }
     ensures { widths.new ≡ sets widths.old from (from_hundredths (slice from to widths.old)) }
 {
-    let mut i = from;
-    while i < to {
-        let w = widths[i];
-        widths[i] = w * PER_HUNDREDTH;
-        i += 1;
+    for w in widths[from..to].iter_mut() {
+        *w *= PER_HUNDREDTH;
     }
 }
 
@@ -109,7 +91,7 @@ fn first_year(begun: bool, first: i32, year: i32) -> i32
     year
 }
 
-// Writes the series of the text to the fronts of the buffers. Every line is good, so the bad case is never met.
+// Writes the series of the text to the fronts of the buffers. Every line is good.
 fn write(text: &[u8], names: &mut [u8], years: &mut [i32], counts: &mut [u32], widths: &mut [i32])
     requires { WriteAsks text.now names.old years.old counts.old widths.old }
     ensures { Written text.now names.old years.old counts.old widths.old
@@ -121,32 +103,27 @@ fn write(text: &[u8], names: &mut [u8], years: &mut [i32], counts: &mut [u32], w
     let mut at = 0;
     let mut begun = false;
     let mut first = 0;
+    // A `while`: a turn goes on behind the end of a line.
     while from < text.len() {
         let end = base_text::fields::find(text, from, text.len(), b'\n');
-        let line = tucson_lines::line(text, from, end);
-        match line {
-            LineAnswer::Bad => {
-                return;
-            }
-            LineAnswer::Good(year, n, _, last) => {
-                first = first_year(begun, first, year);
-                if tucson_lines::goes_on(text, from, end) {
-                    fill(text, from + limits::HEAD_COLUMNS, end, n, widths, at);
-                    at += n;
-                    begun = true;
-                    from = end + 1;
-                    continue;
-                }
-                fill(text, from + limits::HEAD_COLUMNS, end, n - 1, widths, at);
-                at += n - 1;
-                convert(last, widths, start, at);
-                enter(text, from, first, at - start, names, years, counts, series);
-                series += 1;
-                start = at;
-                begun = false;
-                from = end + 1;
-            }
+        let line = tucson_lines::line(text, from, end).unwrap();
+        let fields = from + limits::HEAD_COLUMNS;
+        first = first_year(begun, first, line.year);
+        if tucson_lines::goes_on(text, from, end) {
+            fill(text, fields, end, line.count, widths, at);
+            at += line.count;
+            begun = true;
+            from = end + 1;
+            continue;
         }
+        fill(text, fields, end, line.count - 1, widths, at);
+        at += line.count - 1;
+        convert(line.last, widths, start, at);
+        enter(text, from, first, at - start, names, years, counts, series);
+        series += 1;
+        start = at;
+        begun = false;
+        from = end + 1;
     }
 }
 
@@ -158,30 +135,23 @@ pub fn read(
     years: &mut [i32],
     counts: &mut [u32],
     widths: &mut [i32],
-) -> Answer
+) -> Result<usize, Refusal>
     ensures { let e = read_end text.now names.old years.old counts.old
         widths.old in
         (reply result ≡ e.answers) × ((names.new ≡ e.names)
         × ((years.new ≡ e.years) × ((counts.new ≡ e.counts) × (widths.new ≡ e.widths)))) }
 {
-    let scanned = tucson_scan::scan(text);
-    match scanned {
-        Scanned::Refused(code, place) => Answer::Refused(code, place),
-        Scanned::Totals(series, total) => {
-            if names.len() / limits::NAME_COLUMNS < series {
-                return Answer::Refused(codes::SHORT_BUFFER, 0);
-            }
-            if years.len() < series {
-                return Answer::Refused(codes::SHORT_BUFFER, 0);
-            }
-            if counts.len() < series {
-                return Answer::Refused(codes::SHORT_BUFFER, 0);
-            }
-            if widths.len() < total {
-                return Answer::Refused(codes::SHORT_BUFFER, 0);
-            }
-            write(text, names, years, counts, widths);
-            Answer::Count(series)
-        }
+    let totals = tucson_scan::scan(text)?;
+    if names.len() / limits::NAME_COLUMNS < totals.series
+        || years.len() < totals.series
+        || counts.len() < totals.series
+        || widths.len() < totals.widths
+    {
+        return Err(Refusal {
+            code: codes::SHORT_BUFFER,
+            place: 0,
+        });
     }
+    write(text, names, years, counts, widths);
+    Ok(totals.series)
 }

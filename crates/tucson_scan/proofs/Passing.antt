@@ -7,6 +7,9 @@ use mathlib.Core.Logic.{◌⊎◌, inl, inr}
 use mathlib.Core.Option.{Option, some, none}
 use Prim.Native.Nat.{ℕ, ◌+◌, ◌-◌, ◌<◌, ◌≤◌}
 use native.Mathlib.Omega.{arith}
+use Rattle.std.proofs.lemmas.Option.{same_Some}
+use Rattle.tucson_lines.specs.declared.LineNumbers.{LineNumbers}
+use Rattle.std.specs.Prelude.{Result, Ok, Err, Some}
 use lib.Dec.{eqb}
 use lib.IntN.{ℤ, pos, ◌+ℤ◌}
 use lib.ListN.{length, drop, length-append, length-map, drop_of_length-le}
@@ -20,12 +23,10 @@ use Rattle.spec_tucson.specs.Series.{hundredths, hundredths_limit, all_hundredth
 use Rattle.spec_tucson.specs.TextReading.{Begun, goes_on, begun_by, next_year, year_follows, opened, extended, last_field, whole_series, closing}
 use Rattle.spec_tucson.specs.TextReading.{line_step, if_good, read_line}
 pub use Rattle.spec_tucson.proofs.Lines.{same_is}
-use Rattle.tucson_lines.specs.Machine.{line_told}
-use Rattle.tucson_lines.specs.declared.LineAnswer.TheVariants.{Good}
+use Rattle.tucson_lines.specs.Machine.{numbers, line_told}
 use Rattle.tucson_lines.proofs.GoodLines.{if_width, good_more, IsLine, line_some}
-use Rattle.tucson_scan.specs.Scan.{so_far, Tracks, Told, Within, Advances}
+use Rattle.tucson_scan.specs.Scan.{so_far, leaves, Tracks, Told, Within, Advances}
 use Rattle.tucson_scan.specs.declared.Passed.{Passed}
-use Rattle.tucson_scan.specs.declared.Passed.TheVariants as passed-cases
 
 -- ---- numbers and lists
 pub add_more : (z : ℤ) (m n : ℕ) → z +ℤ pos (m + n) ≡ z +ℤ pos m +ℤ pos n
@@ -61,9 +62,21 @@ pub record Says (l : Line) (year : ℤ) (n : ℕ) (front : Bool) (last : ℤ) : 
   pub front_is : all_hundredths (drop_last l.fields) ≡ front
   pub last_is : last_field l.fields ≡ last
 
-pub says : {l : Line} {year : ℤ} {n : ℕ} {front : Bool} {last : ℤ} → line_told (some l) ≡ Good year n front last → Says l year n front last
+-- the numbers of a line
+abbrev line_numbers : Line → LineNumbers
+line_numbers l = numbers l.year (length l.fields) (all_hundredths (drop_last l.fields)) (last_field l.fields)
+
+pub says : {l : Line} {year : ℤ} {n : ℕ} {front : Bool} {last : ℤ}
+    → line_told (some l) ≡ Some (numbers year n front last) → Says l year n front last
 unfolding line_told
-says e = record { year_is = cc; count_is = cc; front_is = cc; last_is = cc }
+says {l} {year} {n} {front} {last} e =
+    let is : line_numbers l ≡ numbers year n front last = same_Some _ _ e in
+    record {
+      year_is = ap (λ r. r.year) is;
+      count_is = ap (λ r. r.count) is;
+      front_is = ap (λ r. r.small) is;
+      last_is = ap (λ r. r.last) is;
+    }
 
 follows_is : (b : Option Begun) (begun : Bool) (next : ℤ) (small : Bool) (l : Line) (year : ℤ) → Tracks b begun next small → l.year ≡ year →
     year_follows b l ≡ (not begun || (same year next && eqb (year_in_decade year) 0))
@@ -88,9 +101,9 @@ next-after (some c) begun next small l year t e f =
     ∙ ap (λ (z : ℤ). z +ℤ pos (length l.fields)) (t.next-year ∙ is)
 
 module _ (place : ℕ) (b : Option Begun) (t : Text) (begun : Bool) (next : ℤ) (small : Bool) (tracks : Tracks b begun next small)
-    {year : ℤ} {n : ℕ} {front : Bool} {last : ℤ} (told : line_told (good_line true t) ≡ Good year n front last) where
-  abbrev is_line : IsLine (good_line true t) year n front last
-  is_line = line_some (good_line true t) year n front last told
+    {year : ℤ} {n : ℕ} {front : Bool} {last : ℤ} (told : line_told (good_line true t) ≡ Some (numbers year n front last)) where
+  abbrev is_line : IsLine (good_line true t) (numbers year n front last)
+  is_line = line_some (good_line true t) _ told
 
   abbrev l : Line
   l = is_line.line
@@ -108,7 +121,7 @@ module _ (place : ℕ) (b : Option Begun) (t : Text) (begun : Bool) (next : ℤ)
   more_line : good_line false t ≡ cond (is_width last) (some l) none
   more_line = good_more t ∙ ap if_width is_line.is ∙ ap (λ (z : ℤ). cond (is_width z) (some l) none) said.last_is
 
-  pub extend_malformed : is_width last ≡ false → Told place b (read_line place b true t) (passed-cases.Refused 11)
+  pub extend_malformed : is_width last ≡ false → Told place b (read_line place b true t) (Err 11)
   unfolding read_line
   extend_malformed e = rw (more_line, e) (refl, refl)
 
@@ -118,11 +131,11 @@ module _ (place : ℕ) (b : Option Begun) (t : Text) (begun : Bool) (next : ℤ)
       ap (if_good place b true) (more_line ∙ ap (λ (w : Bool). cond w (some l) none) e)
       ∙ ap (λ (f : Bool). cond f (answer (opened (extended (begun_by b l) l))) (refuse 12 place)) year-follows
 
-  pub extend_not_next : is_width last ≡ true → follows ≡ false → Told place b (read_line place b true t) (passed-cases.Refused 12)
+  pub extend_not_next : is_width last ≡ true → follows ≡ false → Told place b (read_line place b true t) (Err 12)
   extend_not_next e f = rw (more_step e, f) (refl, refl)
 
   pub extend_on : 1 ≤ n → is_width last ≡ true → follows ≡ true
-      → Told place b (read_line place b true t) (passed-cases.On true n (year +ℤ pos n) (small && front && le_z last (pos hundredths_limit)))
+      → Told place b (read_line place b true t) (Ok (leaves true n (year +ℤ pos n) (small && front && le_z last (pos hundredths_limit))))
   extend_on h e f =
       rw (more_step e, f) (
         record {
@@ -158,26 +171,27 @@ module _ (place : ℕ) (b : Option Begun) (t : Text) (begun : Bool) (next : ℤ)
   ws_small : all_hundredths ws ≡ (small && front)
   ws_small = hundredths_append (so_far b) (drop_last l.fields) ∙ ap₂ ◌&&◌ (tracks_small b begun next small tracks) said.front_is
 
-  pub close_not_next : follows ≡ false → Told place b (read_line place b false t) (passed-cases.Refused 12)
+  pub close_not_next : follows ≡ false → Told place b (read_line place b false t) (Err 12)
   close_not_next f = rw (last_step, f) (refl, refl)
 
-  pub close_thousandths : follows ≡ true → same last thousandths ≡ true → Told place b (read_line place b false t) (passed-cases.On false (n - 1) (pos 0) true)
+  pub close_thousandths : follows ≡ true → same last thousandths ≡ true
+      → Told place b (read_line place b false t) (Ok (leaves false (n - 1) (pos 0) true))
   unfolding closed_by
   close_thousandths f e = rw (last_step, f, e) (record { over = refl; none_large = refl; count = ws_length })
 
   module _ (f : follows ≡ true) (not-thousandths : same last thousandths ≡ false) where
     pub close_hundredths : (same last hundredths && (small && front)) ≡ true
-        → Told place b (read_line place b false t) (passed-cases.On false (n - 1) (pos 0) true)
+        → Told place b (read_line place b false t) (Ok (leaves false (n - 1) (pos 0) true))
     unfolding closed_by from_hundredths
     close_hundredths e = rw (last_step, f, not-thousandths, ws_small, e) (record { over = refl; none_large = refl; count = length-map ws _ ∙ ws_length })
 
-    pub close_unclosed : (same last hundredths && (small && front)) ≡ false → Told place b (read_line place b false t) (passed-cases.Refused 13)
+    pub close_unclosed : (same last hundredths && (small && front)) ≡ false → Told place b (read_line place b false t) (Err 13)
     unfolding closed_by
     close_unclosed e = rw (last_step, f, not-thousandths, ws_small, e) (refl, refl)
 
 -- ---- a line that is refused for its columns, its year's place or its fields
 pub line_refused : (place : ℕ) (b : Option Begun) (more : Bool) (t : Text) → good_line true t ≡ none
-    → Told place b (read_line place b more t) (passed-cases.Refused 11)
+    → Told place b (read_line place b more t) (Err 11)
 unfolding read_line
 line_refused place b true t e = rw (good_more t ∙ ap if_width e) (refl, refl)
 line_refused place b false t e = rw e (refl, refl)
@@ -196,8 +210,8 @@ followed_by text t next e = go (le_or_lt (length text) next)
     go (inl h) = absurd (true_not_false e (none-follows h))
     go (inr h) = h
 
-pub advances : (text : Text) (from end : ℕ) (goes : Bool) (n : ℕ) (r : Passed) → Within goes n r → end < length text → from + n ≤ end
+pub advances : (text : Text) (from end : ℕ) (goes : Bool) (n : ℕ) (r : Result Passed ℕ) → Within goes n r → end < length text → from + n ≤ end
     → (goes ≡ true → end + 1 < length text) → Advances text from end r
-advances text from end goes n (passed-cases.On more m next small) w ended longer followed =
+advances text from end goes n (Ok p) w ended longer followed =
     record { ended = ended; longer = omega (arith, w.1); followed = λ e. followed (sym w.0 ∙ e) }
-advances text from end goes n (passed-cases.Refused code) w ended longer followed = tt
+advances text from end goes n (Err code) w ended longer followed = tt

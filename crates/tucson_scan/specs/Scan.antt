@@ -1,21 +1,20 @@
 -- The machine's form of what the definitions of reading say of a line and of a whole text: what is kept of a series of which
--- more lines come, and the cases of the enums that the functions of the first pass answer.
-use Rattle.std.specs.Prelude.{Bool, true, false, List, [], ◌≡◌, ℕ, ◌+◌, ◌<◌, ◌≤◌, ℤ, nat_abs, length, drop}
+-- more lines come, and what the functions of the first pass answer.
+use Rattle.std.specs.Prelude.{Bool, true, false, Result, Ok, Err, Some, List, [], ◌≡◌, ℕ, ◌+◌, ◌<◌, ◌≤◌, ℤ, nat_abs, length, drop}
 use Rattle.std.proofs.Math.Option.{Option, some, none}
 use Rattle.std.proofs.Math.Seq.{slice}
 use Rattle.base_outcome.specs.Outcome.{Outcome, answer, refusal, capped}
+use Rattle.base_outcome.specs.Machine.{refused}
+use Rattle.base_outcome.specs.declared.Refusal.{Refusal}
 use Rattle.base_text.specs.Bytes.{Text}
 use Rattle.base_text.specs.Numeral.{numeral_limit}
 use Rattle.spec_tucson.specs.Line.{lines_of, decade, good_line}
 use Rattle.spec_tucson.specs.Series.{Series, all_hundredths}
 use Rattle.spec_tucson.specs.TextReading.{Begun, goes_on, next_year, Step, opened, closed, read_line}
 use Rattle.spec_tucson.specs.ReadCall.{widths_of}
-use Rattle.tucson_lines.specs.Machine.{line_told}
-use Rattle.tucson_lines.specs.declared.LineAnswer.TheVariants.{Good}
+use Rattle.tucson_lines.specs.Machine.{numbers, line_told}
 use Rattle.tucson_scan.specs.declared.Passed.{Passed}
-use Rattle.tucson_scan.specs.declared.Passed.TheVariants as passed-cases
-use Rattle.tucson_scan.specs.declared.Scanned.{Scanned}
-use Rattle.tucson_scan.specs.declared.Scanned.TheVariants as scanned-cases
+use Rattle.tucson_scan.specs.declared.Totals.{Totals}
 
 -- The widths so far of the series that is begun; none if none is.
 abbrev pub so_far : Option Begun → List ℤ
@@ -40,18 +39,22 @@ pub record Whole (b : Option Begun) (s : Series) (more : Bool) (n : ℕ) (small 
   pub none_large : small ≡ true
   pub count : length s.widths ≡ length (so_far b) + n
 
+-- What a line leaves.
+abbrev pub leaves : Bool → ℕ → ℤ → Bool → Passed
+leaves more count next small = record { more = more; count = count; next = next; small = small }
+
 -- The answer for the line at this place: what it leaves, and how many widths it has, or the code of its refusal.
-abbrev pub Told : ℕ → Option Begun → Outcome Step → Passed → Type 0
-Told place b (answer (opened c)) (passed-cases.On more n next small) = Kept c more next small × (length c.widths ≡ length (so_far b) + n)
-Told place b (answer (closed s)) (passed-cases.On more n next small) = Whole b s more n small
-Told place b (answer step) (passed-cases.Refused code) = ⊥
-Told place b (refusal code at) (passed-cases.On more n next small) = ⊥
-Told place b (refusal code at) (passed-cases.Refused told) = (code ≡ told) × (at ≡ capped place)
+abbrev pub Told : ℕ → Option Begun → Outcome Step → Result Passed ℕ → Type 0
+Told place b (answer (opened c)) (Ok p) = Kept c p.more p.next p.small × (length c.widths ≡ length (so_far b) + p.count)
+Told place b (answer (closed s)) (Ok p) = Whole b s p.more p.count p.small
+Told place b (answer step) (Err code) = ⊥
+Told place b (refusal code at) (Ok p) = ⊥
+Told place b (refusal code at) (Err told) = (code ≡ told) × (at ≡ capped place)
 
 -- A line of n fields that is not refused has at most n widths, and it is known whether its series goes on.
-abbrev pub Within : Bool → ℕ → Passed → Type 0
-Within goes n (passed-cases.On more m next small) = (more ≡ goes) × (m ≤ n)
-Within goes n (passed-cases.Refused code) = Unit {0}
+abbrev pub Within : Bool → ℕ → Result Passed ℕ → Type 0
+Within goes n (Ok p) = (p.more ≡ goes) × (p.count ≤ n)
+Within goes n (Err code) = Unit {0}
 
 -- A line that is not refused ends with byte 10, has more bytes than widths, and is followed by another where its series goes
 -- on.
@@ -60,9 +63,9 @@ pub record Ahead (text : Text) (from end : ℕ) (more : Bool) (n : ℕ) : Type 0
   pub longer : from + n ≤ end
   pub followed : more ≡ true → end + 1 < length text
 
-abbrev pub Advances : Text → ℕ → ℕ → Passed → Type 0
-Advances text from end (passed-cases.On more n next small) = Ahead text from end more n
-Advances text from end (passed-cases.Refused code) = Unit {0}
+abbrev pub Advances : Text → ℕ → ℕ → Result Passed ℕ → Type 0
+Advances text from end (Ok p) = Ahead text from end p.more p.count
+Advances text from end (Err code) = Unit {0}
 
 -- ---- what is asked, and what is left
 
@@ -73,18 +76,24 @@ pub record ExtendAsks (year : ℤ) (n : ℕ) : Type 0 where
   pub few : n ≤ decade
 
 -- The answer for every good line that is told so, by whether its series goes on.
-pub record GoodPassed (goes begun : Bool) (next : ℤ) (small : Bool) (year : ℤ) (n : ℕ) (front : Bool) (last : ℤ) (r : Passed) : Type 0 where
-  pub told : (place : ℕ) (b : Option Begun) (t : Text) → Tracks b begun next small → line_told (good_line true t) ≡ Good year n front last
+pub record GoodPassed (goes begun : Bool) (next : ℤ) (small : Bool) (year : ℤ) (n : ℕ) (front : Bool) (last : ℤ)
+    (r : Result Passed ℕ) : Type 0 where
+  pub told : (place : ℕ) (b : Option Begun) (t : Text) → Tracks b begun next small
+      → line_told (good_line true t) ≡ Some (numbers year n front last)
       → Told place b (read_line place b goes t) r
   pub within : Within goes n r
 
 -- The answer for the line from the one index up to the other.
-pub record LinePassed (text : Text) (from end : ℕ) (begun : Bool) (next : ℤ) (small : Bool) (r : Passed) : Type 0 where
+pub record LinePassed (text : Text) (from end : ℕ) (begun : Bool) (next : ℤ) (small : Bool) (r : Result Passed ℕ) : Type 0 where
   pub told : (place : ℕ) (b : Option Begun) → Tracks b begun next small → (let line = slice from (end + 1) text in
       Told place b (read_line place b (goes_on line (lines_of (drop (end + 1) text))) line) r)
   pub advances : Advances text from end r
 
+-- So many series and widths.
+abbrev pub totals : ℕ → ℕ → Totals
+totals series widths = record { series = series; widths = widths }
+
 -- What the first pass answers after so many series and widths, from what reading the other lines ends with.
-unfoldable pub scan_told : ℕ → ℕ → Outcome (List Series) → Scanned
-scan_told series total (answer ss) = scanned-cases.Totals (series + length ss) (total + length (widths_of ss))
-scan_told series total (refusal code place) = scanned-cases.Refused code place
+unfoldable pub scan_told : ℕ → ℕ → Outcome (List Series) → Result Totals Refusal
+scan_told series total (answer ss) = Ok (totals (series + length ss) (total + length (widths_of ss)))
+scan_told series total (refusal code place) = Err (refused code place)

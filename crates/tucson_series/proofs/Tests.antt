@@ -1,21 +1,15 @@
--- The tests of widths and counts, one entry after another: a loop that has passed the first i entries has the test of
--- the others before it.
+-- The sum of counts, one entry after another: a loop that has passed the first i entries has the sum of the others before it.
 use mathlib.Core.Path.{◌≡◌, refl, sym, ap, ◌∙◌}
-use mathlib.Core.Bool.{Bool, true, false, ◌&&◌, and-false}
+use mathlib.Core.Bool.{Bool, true, false}
 use mathlib.Core.List.{List, [], ◌∷◌}
 use Prim.Native.Nat.{ℕ, ◌+◌, ◌-◌, ◌<◌, ◌≤◌}
 use native.Mathlib.Numerals.{add-one}
 use native.Mathlib.Omega.{arith}
 use borrow.Author.Tests.{eq-eqb, ne_eqb, eqb-true, eqb-false}
 use lib.Dec.{eqb}
-use lib.IntN.{ℤ, pos}
 use lib.ListN.{length, get_or, take, drop, length-drop}
 use lib.Seq.{slice, drop-cons, drop-length, take_all}
-use lib.Signed.{lt_z}
-use Rattle.base_exact.proofs.Word.{le_z_not_lt_z}
 use Rattle.base_text.proofs.Slice.{slice_take}
-use Rattle.spec_tucson.specs.Line.{width_limit, is_width}
-use Rattle.spec_tucson.specs.Writing.{all_widths}
 use Rattle.spec_tucson.specs.WriteCall.{total}
 
 -- the entries from i on, the first of them apart
@@ -24,32 +18,6 @@ drop-step l i d h = drop-cons l i d h ∙ ap (λ (n : ℕ). get_or l i d ∷ dro
 
 pub drop_end : {A : Type 0} (l : List A) (i : ℕ) → length l ≤ i → i ≤ length l → drop i l ≡ []
 drop_end l i h k = ap (λ (n : ℕ). drop n l) (let e : i ≡ length l = omega arith in e) ∙ drop-length l
-
--- ---- widths
-
-module _ (ws : List ℤ) (i : ℕ) (h : i < length ws) where
-  widths_step : all_widths (drop i ws) ≡ (is_width (get_or ws i (pos 0)) && all_widths (drop (i + 1) ws))
-  unfolding all_widths
-  widths_step = ap all_widths (drop-step ws i (pos 0) h)
-
-  pub widths_next : lt_z (get_or ws i (pos 0)) (pos 0) ≡ false → lt_z (pos width_limit) (get_or ws i (pos 0)) ≡ false
-      → all_widths (drop i ws) ≡ all_widths (drop (i + 1) ws)
-  unfolding is_width
-  widths_next a b = widths_step ∙ rw (le_z_not_lt_z (get_or ws i (pos 0)) (pos 0), le_z_not_lt_z (pos width_limit) (get_or ws i (pos 0)), a, b)
-
-  pub widths_low : lt_z (get_or ws i (pos 0)) (pos 0) ≡ true → all_widths (drop i ws) ≡ false
-  unfolding is_width
-  widths_low a = widths_step ∙ rw (le_z_not_lt_z (get_or ws i (pos 0)) (pos 0), a)
-
-  pub widths_high : lt_z (pos width_limit) (get_or ws i (pos 0)) ≡ true → all_widths (drop i ws) ≡ false
-  unfolding is_width
-  widths_high a = widths_step ∙ simp (le_z_not_lt_z (pos width_limit) (get_or ws i (pos 0)), a, and-false)
-
-pub widths_end : (ws : List ℤ) (i : ℕ) → length ws ≤ i → i ≤ length ws → all_widths (drop i ws) ≡ true
-unfolding all_widths
-widths_end ws i h k = ap all_widths (drop_end ws i h k)
-
--- ---- counts
 
 pub total-step : (ns : List ℕ) (k : ℕ) → k < length ns → total (drop k ns) ≡ get_or ns k 0 + total (drop (k + 1) ns)
 unfolding total

@@ -9,14 +9,12 @@ fn adds_up(counts: &[u32], sum: usize) -> bool
     ensures { result ≡ eqb (total counts.now) sum }
 {
     let mut left = sum;
-    let mut k = 0;
-    while k < counts.len() {
-        let count = counts[k] as usize;
+    for count in counts {
+        let count = *count as usize;
         if count > left {
             return false;
         }
         left -= count;
-        k += 1;
     }
     left == 0
 }

@@ -24,14 +24,12 @@ pub fn text_fits(years: &[i32], counts: &[u32], room: usize) -> bool
     ensures { result ≡ leb (text_bytes years.now counts.now) room }
 {
     let mut left = room;
-    let mut k = 0;
-    while k < years.len() {
-        let bytes = series_bytes(years[k], counts[k] as usize);
+    for (year, count) in years.iter().zip(counts) {
+        let bytes = series_bytes(*year, *count as usize);
         if bytes > left {
             return false;
         }
         left -= bytes;
-        k += 1;
     }
     true
 }

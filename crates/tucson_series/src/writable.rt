@@ -18,18 +18,9 @@ pub const GREATEST_YEAR: i32 = 9999;
 fn all_widths(widths: &[i32]) -> bool
     ensures { result ≡ all_widths widths.now }
 {
-    let mut i = 0;
-    while i < widths.len() {
-        let width = widths[i];
-        if width < 0 {
-            return false;
-        }
-        if width > limits::WIDTH_LIMIT {
-            return false;
-        }
-        i += 1;
-    }
-    true
+    widths
+        .iter()
+        .all(|width| *width >= 0 && *width <= limits::WIDTH_LIMIT)
 }
 
 // How many years after this one can be written.
@@ -79,7 +70,7 @@ pub fn first_unwritable(
     years: &[i32],
     counts: &[u32],
     widths: &[i32],
-) -> base_outcome::Found
+) -> Option<usize>
     requires { lists_fit names.now years.now counts.now widths.now ≡ true }
     ensures { result ≡ found (unwritable (series_of names.now years.now counts.now
         widths.now)) }
@@ -87,19 +78,14 @@ pub fn first_unwritable(
     let mut before = 0;
     let mut at = 0;
     let mut from = 0;
-    let mut k = 0;
-    let found = loop {
-        if k == years.len() {
-            break base_outcome::Found::Nothing;
-        }
+    for k in 0..years.len() {
         let to = from + counts[k] as usize;
         if !is_writable(names, before, at, years[k], &widths[from..to]) {
-            break base_outcome::Found::At(k);
+            return Some(k);
         }
         before = at;
         at += limits::NAME_COLUMNS;
         from = to;
-        k += 1;
-    };
-    found
+    }
+    None
 }

@@ -2,14 +2,13 @@
 use mathlib.Core.Path.{◌≡◌, refl, sym, ◌∙◌, ap, ap₂}
 use mathlib.Core.Bool.{Bool, true, false, cond, ◌||◌, or-false as or-none}
 use mathlib.Core.List.{[], ◌∷◌, ◌++◌, append-nil}
-use Prim.Native.Nat.{ℕ, zero, suc, ◌+◌, ◌-◌, ◌<◌, ◌≤◌}
+use Prim.Native.Nat.{ℕ, zero, suc, ◌+◌, ◌<◌, ◌≤◌}
 use native.Mathlib.Omega.{arith}
 use borrow.Author.Tests.{ne_eqb, eqb-true, eqb-false, lt-ltb, le-ltb, ltb-true, ltb-false}
 use lib.Dec.{eqb, ltb}
-use lib.ListN.{length, get_or, take, drop, replicate, length-append, drop_of_length-le}
+use lib.ListN.{length, take, drop, replicate, length-append, drop_of_length-le}
 use lib.Seq.{slice, slice_empty, length-slice, length-take-le, take_at, drop_at}
 use Rattle.base_text.specs.Bytes.{Text, index_where}
-use Rattle.base_text.proofs.Slice.{slice-step}
 use Rattle.spec_tucson.specs.Columns.{blank}
 use Rattle.spec_tucson.specs.FileText.{tab}
 use Rattle.spec_tucson.specs.Shown.{tab_blanks, expanded, trimmed, any_tab, in_its_columns, shown, is_blank_line, has_trailing}
@@ -60,18 +59,6 @@ trailing text from end stop to w s told =
         let same : stop ≡ to = omega (arith, told.before, ltb-false to stop e) in
         ap (λ (n : ℕ). ltb (length (expanded 0 (slice from to text))) (length (expanded 0 (slice from n text)))) same
         ∙ le-ltb (length (expanded 0 (slice from to text))) (length (expanded 0 (slice from to text))) (omega arith)
-
--- ---- tabs
-pub tab-next : (text : Text) (i to : ℕ) → i < to → to ≤ length text → (any : Bool)
-    → (any || any_tab (slice i to text)) ≡ ((any || eqb (get_or text i 0) tab) || any_tab (slice (i + 1) to text))
-unfolding any_tab
-tab-next text i to h w true = refl
-tab-next text i to h w false = ap any_tab (slice-step i to text 0 h w)
-
-pub tab_end : (any : Bool) (text : Text) (to : ℕ) → (any || any_tab (slice to to text)) ≡ any
-unfolding any_tab
-tab_end true text to = refl
-tab_end false text to = ap any_tab (slice_empty to text)
 
 -- ---- bytes over 127
 blanks_low : (k : ℕ) → any_high (replicate k blank) ≡ false

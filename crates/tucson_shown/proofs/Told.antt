@@ -13,9 +13,7 @@ use Rattle.spec_tucson.specs.StrictLine.{line_columns, any_high, is_strict, byte
 use Rattle.tucson_columns.specs.Machine.{cells}
 use Rattle.tucson_strict.proofs.Strict.{strict_ascii, strict_long, strict_size}
 use Rattle.tucson_masks.proofs.Masks.{masked_long, masked_ascii}
-use Rattle.tucson_shown.specs.declared.Front.{Front}
-use Rattle.tucson_shown.specs.declared.Front.TheVariants.{Fits, Long}
-use Rattle.tucson_shown.specs.Machine.{LineTold, PlainLine, FieldsAre, FieldsLong, FrontTold}
+use Rattle.tucson_shown.specs.Machine.{LineTold, PlainLine, FieldsAre, FieldsLong}
 use Rattle.tucson_shown.proofs.Fields.{without-none, plain-fields}
 use Rattle.tucson_shown.proofs.Untabbed.{strict_untabbed}
 
@@ -59,13 +57,6 @@ module _ (raw : Text) where
 
     pub long_low : any_high (shown raw) ≡ false → (place : ℕ) → strict_line place raw ≡ refuse 11 place
     long_low h = told_malformed (strict_long (shown_fields raw) (omega (arith, longer))) (ap any_high long_is ∙ h)
-
--- ---- what is told of the front
-pub front_fits : (t : Text) (f : Front) (bytes : Text) (m : ℕ) (site : Bool) → f ≡ Fits m site → FrontTold t f bytes → FieldsAre t m site bytes
-front_fits t f bytes m site e p = subst (λ (g : Front). FrontTold t g bytes) e p
-
-pub front_long : (t : Text) (f : Front) (bytes : Text) → f ≡ Long → FrontTold t f bytes → FieldsLong t
-front_long t f bytes e p = subst (λ (g : Front). FrontTold t g bytes) e p
 
 -- ---- the strict line in two arrays
 module _ (raw bytes line : Text) (m : ℕ) (site : Bool) (size : length bytes ≡ cells) (room : length line ≡ cells) (fields : FieldsAre (shown raw) m site bytes) where

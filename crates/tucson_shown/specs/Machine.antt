@@ -1,7 +1,7 @@
--- The machine's form of a strict line: two arrays with the bytes at their fronts, and the cases of the enum that is answered.
+-- The machine's form of a strict line: two arrays with the bytes at their fronts, and what is answered.
+use Rattle.std.specs.Prelude.{Option, Some, None, Result, Ok, Err}
 use Rattle.std.specs.Prelude.{Bool, true, false, ◌≡◌, ℕ, ◌+◌, ◌-◌, ◌<◌, ◌≤◌, length, take}
 use Rattle.std.proofs.Math.Seq.{slice}
-use Rattle.base_outcome.specs.Codes as codes
 use Rattle.base_outcome.specs.Outcome.{answer, refuse}
 use Rattle.base_text.specs.Bytes.{Text, Range}
 use Rattle.spec_tucson.specs.Shown.{shown}
@@ -9,9 +9,7 @@ use Rattle.spec_tucson.specs.StrictLine.{is_strict, has_site, without_site, show
 use Rattle.tucson_lines.specs.Machine.{LineEnd}
 use Rattle.tucson_columns.specs.Machine.{cells}
 use Rattle.tucson_shown.specs.declared.Front.{Front}
-use Rattle.tucson_shown.specs.declared.Front.TheVariants as front-cases
-use Rattle.tucson_shown.specs.declared.Strict.{Strict}
-use Rattle.tucson_shown.specs.declared.Strict.TheVariants as strict-cases
+use Rattle.tucson_shown.specs.declared.StrictLine.{StrictLine}
 
 -- A strict line with m bytes shown at the front of the one array and its n bytes at the front of the other.
 pub record LineTold (raw : Text) (m n : ℕ) (site : Bool) (bytes line : Text) : Type 0 where
@@ -22,11 +20,10 @@ pub record LineTold (raw : Text) (m n : ℕ) (site : Bool) (bytes line : Text) :
   pub is_line : (place : ℕ) → strict_line place raw ≡ answer (take n line)
   pub is_site : site ≡ has_site (shown raw)
 
--- What is told of a raw line.
-abbrev pub StrictTold : Text → Strict → Text → Text → Type 0
-StrictTold raw (strict-cases.Line m n site) bytes line = LineTold raw m n site bytes line
-StrictTold raw strict-cases.Malformed bytes line = (place : ℕ) → strict_line place raw ≡ refuse codes.tucson_line place
-StrictTold raw strict-cases.NotAscii bytes line = (place : ℕ) → strict_line place raw ≡ refuse codes.file_bytes place
+-- What is told of a raw line: its strict line, or the code of its refusal.
+abbrev pub StrictTold : Text → Result StrictLine ℕ → Text → Text → Type 0
+StrictTold raw (Ok l) bytes line = LineTold raw l.shown l.size l.site bytes line
+StrictTold raw (Err code) bytes line = (place : ℕ) → strict_line place raw ≡ refuse code place
 
 -- ---- what is shown without a site name
 
@@ -69,9 +66,9 @@ pub record FieldsLong (t : Text) : Type 0 where
   pub no_site : has_site t ≡ false
 
 -- What is told of these shown bytes.
-abbrev pub FrontTold : Text → Front → Text → Type 0
-FrontTold t (front-cases.Fits m site) bytes = FieldsAre t m site bytes
-FrontTold t front-cases.Long bytes = FieldsLong t
+abbrev pub FrontTold : Text → Option Front → Text → Type 0
+FrontTold t (Some f) bytes = FieldsAre t f.count f.site bytes
+FrontTold t None bytes = FieldsLong t
 
 -- A line, what is shown of it at the front of an array, and an array for its strict line.
 pub record FitAsks (text : Text) (from end : ℕ) (bytes : Text) (m : ℕ) (site : Bool) (line : Text) : Type 0 where

@@ -10,22 +10,21 @@ ghost use Rattle.tucson_lines.specs.Machine.{LineEnd};
 ghost use Rattle.tucson_columns.specs.Machine.{cells};
 ghost use Rattle.tucson_shown.specs.Machine.{StrictTold, CopyAsks, PlainAsks, PlainTold, ShowAsks, FrontTold, FitAsks, StrictAsks};
 
-use base_outcome::limits;
+use base_outcome::{codes, limits};
 
-// The strict line of a raw line: how many bytes are shown of it, how many it has, and whether a site name was taken off; or why it is
-// none: its columns, or bytes over 127.
+// The strict line of a raw line: how many bytes are shown of it, how many it has, and whether a site name was taken off.
 #[derive(Clone, Copy)]
-pub enum Strict {
-    Line(usize, usize, bool),
-    Malformed,
-    NotAscii,
+pub struct StrictLine {
+    pub shown: usize,
+    pub size: usize,
+    pub site: bool,
 }
 
-// What is shown of a line without a site name: how many bytes, if an array has room for them, and whether a site name was taken off.
+// What is shown of a line without a site name: how many bytes, and whether a site name was taken off.
 #[derive(Clone, Copy)]
-enum Front {
-    Fits(usize, bool),
-    Long,
+struct Front {
+    count: usize,
+    site: bool,
 }
 
 // Whether nothing is shown of the line from the one index up to the other.
@@ -49,10 +48,8 @@ fn any_tab(text: &[u8], from: usize, to: usize) -> bool
     ensures { result ≡ any_tab (slice from to text.now) }
 {
     let mut any = false;
-    let mut i = from;
-    while i < to {
-        any = tucson_lines::either(any, text[i] == b'\t');
-        i += 1;
+    for byte in &text[from..to] {
+        any |= *byte == b'\t';
     }
     any
 }
@@ -95,13 +92,7 @@ fn copy(text: &[u8], from: usize, to: usize, bytes: &mut [u8])
     requires { CopyAsks text.now from to bytes.old }
     ensures { take (to - from) bytes.new ≡ slice from to text.now }
 {
-    let mut i = from;
-    let mut n = 0;
-    while i < to {
-        bytes[n] = text[i];
-        n += 1;
-        i += 1;
-    }
+    bytes[..to - from].copy_from_slice(&text[from..to]);
 }
 
 // The same, for an array of cells. So many bytes of the text take fewer instructions than the bytes of the part alone.
@@ -133,21 +124,24 @@ fn is_plain(text: &[u8], from: usize, to: usize, bytes: &mut [u8], line: &mut [u
     true
 }
 
-// What is shown of the part without a site name, at the front of an array: its tabs as blanks.
-fn show_columns(text: &[u8], from: usize, to: usize, bytes: &mut [u8]) -> Front
+// What is shown of the part without a site name, at the front of an array, if it has room for it: its tabs as blanks.
+fn show_columns(text: &[u8], from: usize, to: usize, bytes: &mut [u8]) -> Option<Front>
     requires { ShowAsks text.now from to bytes.old }
     ensures { FrontTold (expanded 0 (slice from to text.now)) result bytes.new }
 {
     let front = tucson_columns::expand(text, from, to, 0, limits::LINE_COLUMNS, bytes);
     let at = front.at;
     if at == to {
-        return Front::Fits(front.count, false);
+        return Some(Front {
+            count: front.count,
+            site: false,
+        });
     }
     if tucson_site::has_site(text, at, to) {
-        return Front::Fits(
-            tucson_columns::trim_blanks(bytes, limits::LINE_COLUMNS),
-            true,
-        );
+        return Some(Front {
+            count: tucson_columns::trim_blanks(bytes, limits::LINE_COLUMNS),
+            site: true,
+        });
     }
     let whole = tucson_columns::expand(
         text,
@@ -158,26 +152,32 @@ fn show_columns(text: &[u8], from: usize, to: usize, bytes: &mut [u8]) -> Front
         bytes,
     );
     if whole.at == to {
-        return Front::Fits(whole.count, false);
+        return Some(Front {
+            count: whole.count,
+            site: false,
+        });
     }
-    Front::Long
+    None
 }
 
 // The same; most parts have no tab and no more bytes than a strict line, and are shown as they stand.
-fn show(text: &[u8], from: usize, to: usize, bytes: &mut [u8]) -> Front
+fn show(text: &[u8], from: usize, to: usize, bytes: &mut [u8]) -> Option<Front>
     requires { ShowAsks text.now from to bytes.old }
     ensures { FrontTold (expanded 0 (slice from to text.now)) result bytes.new }
 {
     if to - from <= limits::LINE_COLUMNS {
         if !any_tab(text, from, to) {
             copy(text, from, to, bytes);
-            return Front::Fits(to - from, false);
+            return Some(Front {
+                count: to - from,
+                site: false,
+            });
         }
     }
     show_columns(text, from, to, bytes)
 }
 
-// The strict line of a line of which so many bytes are shown at the front of an array.
+// The strict line of a line of which so many bytes are shown at the front of an array, or the code of its refusal.
 fn fit_line(
     text: &[u8],
     from: usize,
@@ -186,59 +186,72 @@ fn fit_line(
     count: usize,
     site: bool,
     line: &mut [u8],
-) -> Strict
+) -> Result<StrictLine, u8>
     requires { FitAsks text.now from end bytes.now count site line.old }
     ensures { StrictTold (slice from (end + 1) text.now) result bytes.now line.new }
 {
     if tucson_strict::is_strict(bytes, count) {
         tucson_masks::mask_bytes(bytes, count, line);
-        return Strict::Line(count, count, site);
+        return Ok(StrictLine {
+            shown: count,
+            size: count,
+            site,
+        });
     }
     if !tucson_strict::any_high(bytes, 0, count) {
-        return Strict::Malformed;
+        return Err(codes::TUCSON_LINE);
     }
     if has_tab(text, from, end) {
-        return Strict::NotAscii;
+        return Err(codes::FILE_BYTES);
     }
     let n = tucson_masks::masked(bytes, count, line);
     if n == tucson_masks::NO_LINE {
-        return Strict::NotAscii;
+        return Err(codes::FILE_BYTES);
     }
-    Strict::Line(count, n, site)
+    Ok(StrictLine {
+        shown: count,
+        size: n,
+        site,
+    })
 }
 
-// The strict line of a line, in two lent arrays.
-fn strict_fields(text: &[u8], from: usize, end: usize, bytes: &mut [u8], line: &mut [u8]) -> Strict
+// The strict line of a line, in two lent arrays, or the code of its refusal.
+fn strict_fields(
+    text: &[u8],
+    from: usize,
+    end: usize,
+    bytes: &mut [u8],
+    line: &mut [u8],
+) -> Result<StrictLine, u8>
     requires { StrictAsks text.now from end bytes.old line.old }
     ensures { StrictTold (slice from (end + 1) text.now) result bytes.new line.new }
 {
     let to = tucson_columns::shown_to(text, from, end);
     if is_plain(text, from, to, bytes, line) {
-        return Strict::Line(to - from, to - from, false);
+        return Ok(StrictLine {
+            shown: to - from,
+            size: to - from,
+            site: false,
+        });
     }
-    let front = show(text, from, to, bytes);
-    match front {
-        Front::Fits(count, site) => {
-            return fit_line(text, from, end, bytes, count, site, line);
-        }
-        Front::Long => {
-            if tucson_strict::any_high(text, from, to) {
-                return Strict::NotAscii;
-            }
-            return Strict::Malformed;
-        }
+    if let Some(front) = show(text, from, to, bytes) {
+        return fit_line(text, from, end, bytes, front.count, front.site, line);
     }
+    if tucson_strict::any_high(text, from, to) {
+        return Err(codes::FILE_BYTES);
+    }
+    Err(codes::TUCSON_LINE)
 }
 
 // The strict line that the line from the one index up to the other is: what is shown of it, and what it becomes, at the fronts of two
-// arrays.
+// arrays. Or the code of its refusal: its columns, or bytes over 127.
 pub fn strict_line(
     text: &[u8],
     from: usize,
     end: usize,
     bytes: &mut [u8; tucson_columns::CELLS],
     line: &mut [u8; tucson_columns::CELLS],
-) -> Strict
+) -> Result<StrictLine, u8>
     requires { LineEnd text.now from end }
     ensures { StrictTold (slice from (end + 1) text.now) result bytes.new line.new }
 {

@@ -1,21 +1,24 @@
--- The index of the first byte that a test picks: one step, and what it says of the bytes before it.
-use mathlib.Core.Path.{◌≡◌, ◌∙◌, ap}
-use mathlib.Core.Bool.{Bool, true, false}
-use Prim.Native.Nat.{ℕ, suc, ◌+◌, ◌<◌, ◌≤◌}
-use lib.ListN.{length, get_or}
-use lib.Seq.{slice, slice_empty}
+-- The index of the first byte that a test picks is what the method `position` finds, or the length where it finds none.
+use Rattle.std.proofs.Common.{◌≡◌, ℕ, suc, ◌+◌, Bool, true, false, cond, ltb, Option, Some, None, length, refl, sym, ◌∙◌, ap, arith}
+use Rattle.std.specs.Option.{unwrap_or}
+use Rattle.std.specs.List.{position_or_len}
+use Rattle.std.proofs.lemmas.List.Recursion.{is_position_or_len}
+use borrow.Author.Tests.{ltb-false}
 use Rattle.base_text.specs.Bytes.{Text, index_where}
-use Rattle.base_text.proofs.Slice.{slice-step}
+use Rattle.base_text.proofs.Cutting.{index-within}
 
-module _ (picks : ℕ → Bool) (text : Text) (i to : ℕ) (before : i < to) (within : to ≤ length text) where
-  pub where_found : picks (get_or text i 0) ≡ true → index_where picks (slice i to text) ≡ 0
+module _ (picks : ℕ → Bool) where
+  index_is : (t : Text) → index_where picks t ≡ position_or_len picks t
   unfolding index_where
-  where_found e = ap (index_where picks) (slice-step i to text 0 before within) ∙ rw e
+  index_is t = is_position_or_len (index_where picks) picks refl step t
+    where
+      step : (c : ℕ) (cs : Text) → cond (picks c) 0 (suc (index_where picks cs)) ≡ cond (picks c) 0 (1 + index_where picks cs)
+      step c cs = let e : suc (index_where picks cs) ≡ 1 + index_where picks cs = omega arith in ap (cond (picks c) 0) e
 
-  pub where_next : picks (get_or text i 0) ≡ false → index_where picks (slice i to text) ≡ suc (index_where picks (slice (i + 1) to text))
-  unfolding index_where
-  where_next e = ap (index_where picks) (slice-step i to text 0 before within) ∙ rw e
-
-pub where_end : (picks : ℕ → Bool) (text : Text) (to : ℕ) → index_where picks (slice to to text) ≡ 0
-unfolding index_where
-where_end picks text to = ap (index_where picks) (slice_empty to text)
+  pub where_is : (t : Text) (n : ℕ) (r : Option ℕ) → length t ≡ n
+      → r ≡ cond (ltb (position_or_len picks t) (length t)) (Some (position_or_len picks t)) None → unwrap_or r n ≡ index_where picks t
+  where_is t n r size e = ap (λ (o : Option ℕ). unwrap_or o n) e ∙ go (ltb (position_or_len picks t) (length t)) refl ∙ sym (index_is t)
+    where
+      go : (b : Bool) → ltb (position_or_len picks t) (length t) ≡ b → unwrap_or (cond b (Some (position_or_len picks t)) None) n ≡ position_or_len picks t
+      go true w = refl
+      go false w = omega (arith, size, index_is t, index-within picks t, ltb-false _ _ w)

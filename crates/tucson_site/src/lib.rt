@@ -35,14 +35,8 @@ fn letters_end(text: &[u8], from: usize, to: usize) -> usize
     requires { Range text.now from to }
     ensures { result ≡ from + letters_before (slice from to text.now) }
 {
-    let mut i = from;
-    while i < to {
-        if !is_letter(text[i]) {
-            return i;
-        }
-        i += 1;
-    }
-    i
+    let letters = text[from..to].iter().position(|x| !is_letter(*x));
+    from + letters.unwrap_or(to - from)
 }
 
 // The first one without a digit.
@@ -50,17 +44,8 @@ fn digits_end(text: &[u8], from: usize, to: usize) -> usize
     requires { Range text.now from to }
     ensures { result ≡ from + digits_before (slice from to text.now) }
 {
-    let mut i = from;
-    while i < to {
-        if text[i] < b'0' {
-            return i;
-        }
-        if text[i] > b'9' {
-            return i;
-        }
-        i += 1;
-    }
-    i
+    let digits = text[from..to].iter().position(|x| !x.is_ascii_digit());
+    from + digits.unwrap_or(to - from)
 }
 
 // The first one with neither a blank nor a tab.
@@ -68,14 +53,10 @@ fn gap_end(text: &[u8], from: usize, to: usize) -> usize
     requires { Range text.now from to }
     ensures { result ≡ from + gap_before (slice from to text.now) }
 {
-    let mut i = from;
-    while i < to {
-        if !tucson_columns::is_gap(text[i]) {
-            return i;
-        }
-        i += 1;
-    }
-    i
+    let gap = text[from..to]
+        .iter()
+        .position(|x| !tucson_columns::is_gap(*x));
+    from + gap.unwrap_or(to - from)
 }
 
 // Whether the part is a site name.

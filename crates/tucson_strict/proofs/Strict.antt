@@ -8,12 +8,11 @@ use native.Mathlib.Omega.{arith}
 use borrow.Author.Tests.{eq-eqb, le-leb, lt-leb, leb-true, ltb-true, eqb-true}
 use lib.Dec.{eqb, leb, ltb}
 use lib.IntN.{ℤ}
-use lib.ListN.{length, get_or, take, drop, take-append-drop, length-drop}
-use lib.Seq.{slice, slice_empty, take_all, take-add, drop-drop}
+use lib.ListN.{length, take, drop, take-append-drop, length-drop}
+use lib.Seq.{slice, take_all, take-add, drop-drop}
 use Rattle.base_exact.proofs.Decide.{and-true, true_not_false}
 use Rattle.base_text.specs.Bytes.{Text}
 use Rattle.base_text.specs.Numeral.{numeral}
-use Rattle.base_text.proofs.Slice.{slice-step}
 use Rattle.base_text.proofs.Lacking.{lacks, lacks_append, lacks-first, Outside, numeral-lacks}
 use Rattle.spec_tucson.specs.Columns.{blank, in_columns}
 use Rattle.spec_tucson.specs.Line.{name_columns, year_columns, head_columns, field_columns, decade, last_printable, all_printable, all_blank, is_name, with_field, field_numerals}
@@ -203,18 +202,3 @@ strict_ascii t e =
     (and-true (eqb (length name) name_columns && all_printable name) (not (all_blank name)) (strict_parts t e).named).0).1 in
     ap any_high (sym (take-append-drop name_columns t)) ∙ high_append name (drop name_columns t)
     ∙ ap₂ ◌||◌ (printable_low name printable) (lacking_high (drop name_columns t) (strict_lacks is_high outside_high refl t e))
-
--- a byte at a time
-module _ (text : Text) (i to : ℕ) (before : i < to) (within : to ≤ length text) where
-  high-step : any_high (slice i to text) ≡ (is_high (get_or text i 0) || any_high (slice (i + 1) to text))
-  unfolding any_high
-  high-step = ap any_high (slice-step i to text 0 before within)
-
-  pub high-next : (any : Bool) → (any || any_high (slice i to text)) ≡ ((any || is_high (get_or text i 0)) || any_high (slice (i + 1) to text))
-  high-next true = refl
-  high-next false = high-step
-
-pub high_end : (any : Bool) (text : Text) (to : ℕ) → (any || any_high (slice to to text)) ≡ any
-unfolding any_high
-high_end true text to = refl
-high_end false text to = ap any_high (slice_empty to text)

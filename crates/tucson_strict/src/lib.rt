@@ -13,7 +13,6 @@ ghost use Rattle.tucson_columns.specs.Machine.{cells};
 ghost use Rattle.tucson_strict.specs.Machine.{NegativeTold};
 
 use base_outcome::limits;
-use base_text::numeral::Field;
 
 // The most digits of a numeral.
 const MOST_DIGITS: usize = 7;
@@ -23,17 +22,7 @@ fn all_digits(text: &[u8], from: usize, to: usize) -> bool
     requires { Range text.now from to }
     ensures { result ≡ all_digits (slice from to text.now) }
 {
-    let mut i = from;
-    while i < to {
-        if text[i] < b'0' {
-            return false;
-        }
-        if text[i] > b'9' {
-            return false;
-        }
-        i += 1;
-    }
-    true
+    text[from..to].iter().all(|x| x.is_ascii_digit())
 }
 
 // Whether the part begins with a minus and a digit other than 0, and has no more digits than a number.
@@ -67,11 +56,7 @@ fn is_number(text: &[u8], from: usize, to: usize) -> bool
     if is_negative(text, from, to) {
         return all_digits(text, from + 1, to);
     }
-    let field = base_text::numeral::numeral(text, from, to);
-    match field {
-        Field::Bad => false,
-        Field::Numeral(_) => true,
-    }
+    base_text::numeral::numeral(text, from, to).is_some()
 }
 
 // Whether a number stands right-aligned in some columns.
@@ -79,12 +64,10 @@ fn is_numeral(text: &[u8], from: usize, to: usize) -> bool
     requires { Range text.now from to }
     ensures { result ≡ is_some (in_columns (slice from to text.now)) }
 {
-    let mut i = from;
-    while i < to {
+    for i in from..to {
         if text[i] != b' ' {
             return is_number(text, i, to);
         }
-        i += 1;
     }
     false
 }
@@ -95,13 +78,11 @@ fn all_numerals(text: &[u8], from: usize, to: usize, n: usize) -> bool
     ensures { result ≡ is_some (field_numerals n (slice from to text.now)) }
 {
     let mut at = from;
-    let mut left = n;
-    while left > 0 {
+    for _ in 0..n {
         if !is_numeral(text, at, at + limits::FIELD_COLUMNS) {
             return false;
         }
         at += limits::FIELD_COLUMNS;
-        left -= 1;
     }
     true
 }
@@ -137,10 +118,8 @@ pub fn any_high(text: &[u8], from: usize, to: usize) -> bool
     ensures { result ≡ any_high (slice from to text.now) }
 {
     let mut any = false;
-    let mut i = from;
-    while i < to {
-        any = tucson_lines::either(any, text[i] >= tucson_columns::HIGH);
-        i += 1;
+    for byte in &text[from..to] {
+        any |= *byte >= tucson_columns::HIGH;
     }
     any
 }

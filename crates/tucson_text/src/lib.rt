@@ -23,18 +23,11 @@ fn sum(counts: &[u32]) -> usize
     requires { total counts.now ≤ text_limit }
     ensures { result ≡ total counts.now }
 {
-    let mut all = 0;
-    let mut k = 0;
-    while k < counts.len() {
-        all += counts[k] as usize;
-        k += 1;
-    }
-    all
+    counts.iter().map(|count| *count as usize).sum()
 }
 
 // The series of a text that is not too long, read and written again, or the line of its refusal. What is read can always be
-// written, so the second refusal is never met. The lent lists take what is read: what they hold before does not matter, and what
-// they hold afterwards is of no use.
+// written. The lent lists take what is read: what they hold before does not matter, and what they hold afterwards is of no use.
 fn rewrite_over(
     input: &[u8],
     names: &mut [u8; NAMES],
@@ -47,30 +40,15 @@ fn rewrite_over(
     ensures { Prints (length out.new) (outcome_text (read_text input.now)) out.old
         out.new result }
 {
-    let series = tucson_read::read(input, names, years, counts, widths);
-    match series {
-        base_outcome::Answer::Refused(code, place) => base_print::refusal(code, place, out),
-        base_outcome::Answer::Count(n) => {
-            // The lists as slices, of which parts are lent below.
-            let names: &[u8] = names;
-            let years: &[i32] = years;
-            let counts: &[u32] = counts;
-            let widths: &[i32] = widths;
-            let bytes = n * limits::NAME_COLUMNS;
-            let widths_read = sum(&counts[..n]);
-            let text = tucson_write::write(
-                &names[..bytes],
-                &years[..n],
-                &counts[..n],
-                &widths[..widths_read],
-                out,
-            );
-            match text {
-                base_outcome::Answer::Refused(code, place) => base_print::refusal(code, place, out),
-                base_outcome::Answer::Count(count) => count,
-            }
-        }
-    }
+    let series = match tucson_read::read(input, names, years, counts, widths) {
+        Ok(series) => series,
+        Err(refusal) => return base_print::refusal(refusal.code, refusal.place, out),
+    };
+    let names = &names[..series * limits::NAME_COLUMNS];
+    let counts = &counts[..series];
+    let widths = &widths[..sum(counts)];
+    let text = tucson_write::write(names, &years[..series], counts, widths, out);
+    text.unwrap()
 }
 
 // The same with lists of its own.

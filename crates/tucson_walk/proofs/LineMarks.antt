@@ -1,18 +1,18 @@
 -- The notes of a line by what was changed in it.
-use mathlib.Core.Path.{◌≡◌, refl, sym, ◌∙◌, ap, ap₂}
-use mathlib.Core.Bool.{Bool, true, false, cond, ◌&&◌, not}
-use mathlib.Core.List.{List, [], ◌∷◌, ◌++◌}
-use Prim.Native.Nat.{ℕ, suc, ◌+◌, ◌<◌, ◌≤◌}
+use mathlib.Core.Path.{◌≡◌, refl, sym, ◌∙◌, ap}
+use mathlib.Core.Bool.{Bool, true, false, cond, not}
+use mathlib.Core.List.{List, [], ◌∷◌}
+use Prim.Native.Nat.{ℕ, ◌+◌, ◌<◌}
 use native.Mathlib.Omega.{arith}
 use borrow.Author.Tests.{eqb-true, eqb-false}
 use lib.Dec.{eqb}
-use lib.ListN.{length, take, drop, length-drop}
+use lib.ListN.{length, drop, length-drop}
 use lib.Seq.{slice, take_all}
 use Rattle.base_print.specs.Buffer.{Puts}
 use Rattle.base_print.proofs.Buffer.{puts_then, puts_within, puts_as}
 use Rattle.base_text.specs.Bytes.{Text, newline, index_of, cut}
 use Rattle.base_text.proofs.Cutting.{cut-none}
-use Rattle.spec_tucson.specs.Shown.{is_blank_line, is_cut, has_end, has_return, has_tab, has_trailing}
+use Rattle.spec_tucson.specs.Shown.{is_blank_line, is_cut, has_end, has_return, has_tab}
 use Rattle.spec_tucson.specs.CleanNotes.{note_if, is_cut_line, header_notes, line_notes, at_line}
 use Rattle.tucson_lines.specs.Machine.{LineEnd}
 use Rattle.tucson_lines.proofs.Lines.{cut_line, end_is, end_within, line-bytes}

@@ -2,7 +2,7 @@
 use mathlib.Core.Path.{◌≡◌, refl, sym, ◌∙◌, ap, ap₂}
 use mathlib.Core.Bool.{Bool, true, false}
 use mathlib.Core.List.{List, ◌∷◌}
-use Prim.Native.Nat.{ℕ, suc, ◌+◌, ◌<◌, ◌≤◌}
+use Prim.Native.Nat.{ℕ, ◌+◌, ◌≤◌}
 use native.Mathlib.Omega.{arith}
 use lib.IntN.{ℤ}
 use lib.ListN.{length, take}
@@ -10,7 +10,7 @@ use Rattle.base_exact.proofs.Decide.{clash}
 use Rattle.base_text.specs.Bytes.{Text}
 use Rattle.spec_tucson.specs.TextReading.{last_field}
 use Rattle.spec_tucson.specs.StrictLine.{Kept, name_of}
-use Rattle.spec_tucson.specs.CleanSeries.{same_name, continues, fields_of, closing_after}
+use Rattle.spec_tucson.specs.CleanSeries.{continues, fields_of, closing_after}
 use Rattle.spec_tucson.specs.CleanNotes.{Ahead, ahead}
 use Rattle.tucson_notes.specs.Machine.{ahead_of}
 use Rattle.tucson_notes.specs.declared.Ahead as machine-ahead

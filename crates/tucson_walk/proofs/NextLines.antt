@@ -1,29 +1,28 @@
 -- The line behind another one: the first that is not blank.
-use mathlib.Core.Path.{◌≡◌, refl, sym, ◌∙◌, ap, ap₂, subst}
-use mathlib.Core.Bool.{Bool, true, false, cond, ◌&&◌, not}
-use mathlib.Core.List.{List, [], ◌∷◌}
-use mathlib.Core.Option.{Option, some, none}
+use mathlib.Core.Path.{◌≡◌, sym, ◌∙◌, ap, ap₂}
+use mathlib.Core.Bool.{Bool, true, false, ◌&&◌, not}
+use mathlib.Core.List.{List, []}
+use mathlib.Core.Option.{some}
 use Prim.Native.Nat.{ℕ, suc, ◌+◌, ◌<◌, ◌≤◌}
 use native.Mathlib.Omega.{arith}
 use borrow.Author.Tests.{lt-ltb}
-use lib.Dec.{ltb}
 use lib.ListN.{length, take, drop, drop_of_length-le}
 use lib.Seq.{slice, take-take, length-take-le}
 use Rattle.base_exact.proofs.Decide.{clash}
-use Rattle.base_outcome.specs.Outcome.{Outcome, answer, refusal, refuse}
+use Rattle.base_outcome.specs.Outcome.{Outcome, answer, refuse}
 use Rattle.base_text.specs.Bytes.{Text}
 use Rattle.spec_tucson.specs.Line.{name_columns, lines_of}
 use Rattle.spec_tucson.specs.Shown.{is_blank_line}
-use Rattle.spec_tucson.specs.StrictLine.{is_strict, strict_line, Kept, name_of}
+use Rattle.spec_tucson.specs.StrictLine.{strict_line, Kept, name_of}
 use Rattle.spec_tucson.specs.KeptLines.{same_text, is_data, kept_lines}
 use Rattle.spec_tucson.specs.CleanSeries.{same_name, continues}
 use Rattle.tucson_fields.proofs.LineFields.{stands}
 use Rattle.tucson_lines.specs.Machine.{LineEnd}
-use Rattle.tucson_lines.proofs.Lines.{end_within, lines_step}
+use Rattle.tucson_lines.proofs.Lines.{lines_step}
 use Rattle.tucson_shown.specs.Machine.{LineTold}
 use Rattle.tucson_check.proofs.HeldLines.{answer_strict}
 use Rattle.tucson_walk.specs.Skipping.{Skipped}
-use Rattle.tucson_walk.specs.Following.{KeptBehind, NextIs, NextBy, StandsIn, Follows}
+use Rattle.tucson_walk.specs.Following.{KeptBehind, NextBy, StandsIn, Follows}
 use Rattle.tucson_walk.proofs.Kept.{KeptData, kept_data}
 
 -- ---- answers

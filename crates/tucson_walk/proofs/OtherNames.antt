@@ -1,19 +1,16 @@
 -- A line whose name differs from another one in a plain byte, behind plain bytes: the other one's series does not go on in it.
-use mathlib.Core.Path.{◌≡◌, refl, sym, ◌∙◌, ap, ap₂, subst}
-use mathlib.Core.Bool.{Bool, true, false, cond}
+use mathlib.Core.Path.{◌≡◌, refl, sym, ◌∙◌, ap, subst}
+use mathlib.Core.Bool.{false}
 use mathlib.Core.List.{List, [], ◌∷◌, ◌++◌, append_assoc}
-use mathlib.Core.Option.{Option, some, none}
 use Prim.Native.Nat.{ℕ, suc, ◌+◌, ◌<◌, ◌≤◌}
-use native.Mathlib.Nat.{add-zero}
 use native.Mathlib.Omega.{arith}
 use borrow.Author.Tests.{ne_eqb}
-use lib.Dec.{eqb}
-use lib.ListN.{length, get_or, take, drop, length-append}
-use lib.Seq.{slice, slice_empty, length-slice, get_or-take, get_or-append_seam}
+use lib.ListN.{length, get_or, take, length-append}
+use lib.Seq.{slice, length-slice, get_or-take, get_or-append_seam}
 use Rattle.base_exact.proofs.Decide.{cond_false}
 use Rattle.base_text.specs.Bytes.{Text, newline, index_where, index_of}
 use Rattle.spec_tucson.specs.Columns.{blank}
-use Rattle.spec_tucson.specs.Line.{name_columns, last_printable, lines_of}
+use Rattle.spec_tucson.specs.Line.{name_columns, last_printable}
 use Rattle.spec_tucson.specs.Shown.{is_blank_line}
 use Rattle.spec_tucson.specs.StrictLine.{Kept, name_of, strict_line}
 use Rattle.spec_tucson.specs.KeptLines.{same_text}
@@ -22,10 +19,9 @@ use Rattle.tucson_columns.proofs.Shown.{slice_snoc, slice-split}
 use Rattle.tucson_lines.specs.Machine.{LineEnd}
 use Rattle.tucson_walk.specs.Skipping.{Skipped}
 use Rattle.tucson_walk.specs.Following.{KeptBehind}
-use Rattle.tucson_walk.proofs.Kept.{KeptData}
 use Rattle.tucson_walk.proofs.Skips.{passed_none, skipped_at}
 use Rattle.tucson_walk.proofs.NextLines.{line-behind}
-use Rattle.tucson_walk.proofs.PlainFronts.{Plain, Seen, Begins, plain_snoc, seen_snoc, front-unblank, strict_front, names-differ}
+use Rattle.tucson_walk.proofs.PlainFronts.{Plain, Seen, plain_snoc, seen_snoc, front-unblank, strict_front, names-differ}
 
 -- byte 10 does not come before the end of plain bytes
 end_behind : (p r : Text) → Plain p → length p ≤ index_of newline (p ++ r)
@@ -35,10 +31,7 @@ end_behind (c ∷ p) r h =
     let e : index_of newline (c ∷ (p ++ r)) ≡ suc (index_of newline (p ++ r)) = cond_false _ _ (ne_eqb c newline (λ z. omega (arith, z, h.0))) in
     omega (arith, e, end_behind p r h.2)
 
--- no byte, and a byte more
-pub plain-none : (text : Text) (past : ℕ) → Plain (slice past (past + 0) text)
-plain-none text past = rw (add-zero, slice_empty past text) tt
-
+-- a byte more
 pub plain-next : (text : Text) (past i : ℕ) → past + i < length text → Plain (slice past (past + i) text)
     → blank ≤ get_or text (past + i) 0 → get_or text (past + i) 0 ≤ last_printable → Plain (slice past (past + (i + 1)) text)
 plain-next text past i w h low high =

@@ -1,12 +1,12 @@
 -- A line that begins with plain bytes, the last of them no blank: it is not blank, and the strict line that it becomes begins so too.
 use mathlib.Core.Path.{◌≡◌, refl, sym, ◌∙◌, ap, ap₂}
 use mathlib.Core.Bool.{Bool, true, false, cond, ◌&&◌}
-use mathlib.Core.List.{List, [], ◌∷◌, ◌++◌, drop_last}
+use mathlib.Core.List.{[], ◌∷◌, ◌++◌, drop_last}
 use mathlib.Core.Option.{Option, some, none}
 use Prim.Native.Nat.{ℕ, zero, suc, ◌+◌, ◌-◌, ◌<◌, ◌≤◌}
 use native.Mathlib.Omega.{arith}
-use borrow.Author.Tests.{eq-eqb, ne_eqb, eqb-true, eqb-false, lt-leb}
-use lib.Dec.{eqb, leb}
+use borrow.Author.Tests.{ne_eqb, lt-leb}
+use lib.Dec.{eqb}
 use lib.ListN.{length, get_or, take, length-append}
 use Rattle.base_exact.proofs.Decide.{clash, cond_false}
 use Rattle.base_outcome.specs.Outcome.{Outcome, answer, refuse}
@@ -15,7 +15,7 @@ use Rattle.spec_tucson.specs.Columns.{blank}
 use Rattle.spec_tucson.specs.FileText.{tab, carriage_return}
 use Rattle.spec_tucson.specs.Line.{last_printable}
 use Rattle.spec_tucson.specs.Shown.{before_cut, unended, ends_in_return, without_return, expanded, unless_trailing, trimmed, line_bytes, in_its_columns, shown, is_blank_line, has_tab}
-use Rattle.spec_tucson.specs.StrictLine.{has_site, without_site, line_columns, is_high, any_high, bytes_masked, question_mark, with_masked, characters_from}
+use Rattle.spec_tucson.specs.StrictLine.{has_site, without_site, line_columns, any_high, bytes_masked, question_mark, with_masked, characters_from}
 use Rattle.spec_tucson.specs.StrictLine.{is_strict, if_strict, only_one, masked, or_refused, strict_bytes, shown_fields, strict_line}
 use Rattle.spec_tucson.specs.KeptLines.{same_text}
 

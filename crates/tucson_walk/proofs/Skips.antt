@@ -1,20 +1,17 @@
 -- Blank lines passed over, one after another.
 use mathlib.Core.Path.{◌≡◌, refl, sym, ◌∙◌, ap}
-use mathlib.Core.Bool.{Bool, true, false, cond, ◌&&◌, not}
-use mathlib.Core.Option.{Option, some, none}
+use mathlib.Core.Bool.{Bool, true, false, ◌&&◌, not}
 use Prim.Native.Nat.{ℕ, suc, ◌+◌, ◌<◌, ◌≤◌}
 use native.Mathlib.Omega.{arith}
 use lib.Dec.{ltb}
-use lib.ListN.{length, drop}
+use lib.ListN.{length}
 use lib.Seq.{slice}
 use Rattle.base_text.specs.Bytes.{Text}
-use Rattle.spec_tucson.specs.Line.{lines_of}
 use Rattle.spec_tucson.specs.Shown.{is_blank_line}
-use Rattle.spec_tucson.specs.StrictLine.{Kept}
 use Rattle.spec_tucson.specs.KeptLines.{is_data, kept_lines}
 use Rattle.tucson_lines.specs.Machine.{LineEnd}
 use Rattle.tucson_lines.proofs.Lines.{end_within, lines_step}
-use Rattle.tucson_walk.specs.Skipping.{KeptFrom, Passed, Skipped}
+use Rattle.tucson_walk.specs.Skipping.{Passed, Skipped}
 use Rattle.tucson_walk.proofs.Kept.{kept_other}
 
 -- a blank line is no line of data

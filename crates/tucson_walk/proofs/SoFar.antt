@@ -1,12 +1,12 @@
 -- The walk between two raw lines: what is put of the whole, and what is left.
-use mathlib.Core.Path.{◌≡◌, refl, sym, ◌∙◌, ap, ap₂}
+use mathlib.Core.Path.{◌≡◌, refl, sym, ◌∙◌, ap}
 use mathlib.Core.Bool.{Bool, false}
 use mathlib.Core.List.{List, [], ◌∷◌, ◌++◌, append_assoc, append-nil}
-use mathlib.Core.Option.{Option, some, none}
-use Prim.Native.Nat.{ℕ, suc, ◌+◌, ◌*◌, ◌^◌, ◌<◌, ◌≤◌}
+use mathlib.Core.Option.{none}
+use Prim.Native.Nat.{ℕ, ◌+◌, ◌*◌, ◌<◌, ◌≤◌}
 use native.Mathlib.Omega.{arith}
-use lib.IntN.{ℤ, pos}
-use lib.ListN.{length, take, drop, drop_of_length-le}
+use lib.IntN.{pos}
+use lib.ListN.{length, drop, drop_of_length-le}
 use Rattle.base_outcome.specs.Outcome.{Outcome, answer}
 use Rattle.base_print.specs.Buffer.{Puts}
 use Rattle.base_print.proofs.Buffer.{puts_none, puts_within, puts_then, puts_as}
@@ -19,7 +19,6 @@ use Rattle.spec_tucson.specs.CleanNotes.{Before, notes_of}
 use Rattle.spec_tucson.specs.CleanCall.{at_start}
 use Rattle.tucson_lines.specs.Machine.{LineEnd}
 use Rattle.tucson_lines.proofs.Lines.{end_within, lines_step}
-use Rattle.tucson_walk.specs.declared.Walked.{Walked}
 use Rattle.tucson_walk.specs.declared.Turn.{Turn}
 use Rattle.tucson_walk.specs.Tracking.{Begins}
 use Rattle.tucson_walk.specs.Walking.{Walks, numbers_of, FarFrom, Stepped, TurnTold, WalkAsks, WalkedAll}

@@ -1,18 +1,18 @@
 -- One raw line more: left out, or taken.
 use mathlib.Core.Path.{◌≡◌, refl, sym, ◌∙◌, ap, ap₂, subst}
 use mathlib.Core.Bool.{Bool, true, false, cond, not}
-use mathlib.Core.List.{List, [], ◌∷◌, ◌++◌, map}
-use mathlib.Core.Option.{Option, some, none}
-use Prim.Native.Nat.{ℕ, suc, ◌+◌, ◌<◌, ◌≤◌}
+use mathlib.Core.List.{List, [], ◌∷◌, ◌++◌}
+use mathlib.Core.Option.{some}
+use Prim.Native.Nat.{ℕ, suc, ◌+◌, ◌<◌}
 use native.Mathlib.Numerals.{add-one}
 use native.Mathlib.Omega.{arith}
 use borrow.Author.Tests.{ltb-true}
 use lib.Dec.{ltb}
 use lib.IntN.{ℤ}
-use lib.ListN.{length, take, drop}
+use lib.ListN.{length, drop}
 use lib.Seq.{slice}
 use Rattle.base_exact.proofs.Decide.{and-true}
-use Rattle.base_outcome.specs.Outcome.{Outcome, answer}
+use Rattle.base_outcome.specs.Outcome.{answer}
 use Rattle.base_print.specs.Buffer.{Puts}
 use Rattle.base_print.proofs.Buffer.{puts_none, puts_within}
 use Rattle.base_text.specs.Bytes.{Text}
@@ -24,7 +24,6 @@ use Rattle.spec_tucson.specs.CleanSeries.{continues, follows_its, reclosed, clos
 use Rattle.spec_tucson.specs.CleanNotes.{ahead, kept_notes, line_notes, at_line, Before, behind, closing_or, notes_of}
 use Rattle.tucson_lines.specs.Machine.{LineEnd}
 use Rattle.tucson_lines.proofs.Lines.{lines_step}
-use Rattle.tucson_walk.specs.declared.Walked.{Walked}
 use Rattle.tucson_walk.specs.declared.Turn.{Turn}
 use Rattle.tucson_walk.specs.Following.{KeptBehind}
 use Rattle.tucson_walk.specs.Walking.{Holds, other_notes, Walks, numbers_of, Stepped, Took}

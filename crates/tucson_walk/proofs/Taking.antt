@@ -1,25 +1,22 @@
 -- A strict line taken: what is put for it, and what is held of its series behind it.
 use mathlib.Core.Path.{◌≡◌, refl, sym, ◌∙◌, ap, ap₂, subst}
-use mathlib.Core.Bool.{Bool, true, false, cond, ◌&&◌, not}
+use mathlib.Core.Bool.{Bool, true, false, cond, not}
 use mathlib.Core.List.{List, [], ◌∷◌, ◌++◌}
-use mathlib.Core.Option.{Option, some, none}
-use Prim.Native.Nat.{ℕ, zero, suc, ◌+◌, ◌-◌, ◌≤◌}
+use Prim.Native.Nat.{ℕ, suc, ◌-◌, ◌≤◌}
 use native.Mathlib.Omega.{arith}
-use borrow.Author.Tests.{eq-eqb, ne_eqb}
+use borrow.Author.Tests.{ne_eqb}
 use lib.Dec.{eqb}
 use lib.IntN.{ℤ}
 use lib.ListN.{length, take}
 use lib.Seq.{take_all}
-use Rattle.base_print.specs.Buffer.{Puts}
 use Rattle.base_print.proofs.Buffer.{puts_as}
 use Rattle.base_text.specs.Bytes.{Text}
 use Rattle.spec_tucson.specs.Columns.{columns}
-use Rattle.spec_tucson.specs.Line.{field_columns, same}
-use Rattle.spec_tucson.specs.TextReading.{last_field}
+use Rattle.spec_tucson.specs.Line.{field_columns}
 use Rattle.spec_tucson.specs.Shown.{shown}
 use Rattle.spec_tucson.specs.StrictLine.{has_site, any_high, shown_fields, Kept}
-use Rattle.spec_tucson.specs.CleanSeries.{unknown_unit, unit_not_said, continues, follows_its, fields_of, closing_of, is_reclosed, reclosed, with_end}
-use Rattle.spec_tucson.specs.CleanNotes.{Ahead, one_more, ahead, note_if, remarks, kept_notes, line_notes, at_line, Before, behind}
+use Rattle.spec_tucson.specs.CleanSeries.{continues, follows_its, fields_of, closing_of, is_reclosed, reclosed, with_end}
+use Rattle.spec_tucson.specs.CleanNotes.{Ahead, ahead, remarks, kept_notes, line_notes, at_line, Before, behind}
 use Rattle.tucson_notes.specs.Machine.{SumsUp, ahead_of, shown_marked, form_marked, marked, strict_put}
 use Rattle.tucson_notes.specs.declared.Fields.{Fields}
 use Rattle.tucson_notes.specs.declared.Marks.{Marks}
@@ -27,8 +24,8 @@ use Rattle.spec_tucson.proofs.Kept.{ahead_some}
 use Rattle.tucson_walk.specs.declared.Series.{Series}
 use Rattle.tucson_walk.specs.declared.Walked.{Walked}
 use Rattle.tucson_walk.specs.declared.Turn.{Turn}
-use Rattle.tucson_walk.specs.Tracking.{ahead_with, Tracks}
-use Rattle.tucson_walk.specs.Walking.{Knows, Holds, Entered, LeaveTold, reclosing, marks_of, PutsKept, Took}
+use Rattle.tucson_walk.specs.Tracking.{ahead_with}
+use Rattle.tucson_walk.specs.Walking.{Holds, Entered, LeaveTold, reclosing, marks_of, PutsKept, Took}
 use Rattle.tucson_walk.proofs.Tracking.{ahead_more, ahead-last, tracks_on}
 
 -- ---- the last line of a series

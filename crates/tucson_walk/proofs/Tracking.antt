@@ -2,18 +2,17 @@
 use mathlib.Core.Path.{◌≡◌, refl, sym, ◌∙◌, ap}
 use mathlib.Core.Bool.{Bool, true, false, cond}
 use mathlib.Core.List.{List, [], ◌∷◌}
-use mathlib.Core.Option.{Option, some, none}
+use mathlib.Core.Option.{some}
 use Prim.Native.Nat.{ℕ, zero, suc, ◌-◌}
 use native.Mathlib.Omega.{arith}
 use lib.IntN.{ℤ}
 use lib.ListN.{length}
-use Rattle.base_exact.proofs.Decide.{clash, true_not_false}
 use Rattle.spec_tucson.specs.TextReading.{last_field}
 use Rattle.spec_tucson.specs.StrictLine.{Kept}
-use Rattle.spec_tucson.specs.CleanSeries.{same_name, continues, fields_of, closing_after}
+use Rattle.spec_tucson.specs.CleanSeries.{continues, fields_of, closing_after}
 use Rattle.spec_tucson.specs.CleanNotes.{Ahead, one_more, ahead}
 use Rattle.spec_tucson.proofs.Kept.{ahead_some}
-use Rattle.tucson_walk.specs.Tracking.{Begins, GoesOn, ahead_with, Tracks}
+use Rattle.tucson_walk.specs.Tracking.{ahead_with, Tracks}
 
 -- ---- what stands ahead of a line
 

@@ -16,7 +16,6 @@ use Rattle.spec_tucson.specs.CleanNotes.{notes_of}
 use Rattle.spec_tucson.specs.CleanCall.{at_start}
 use Rattle.tucson_lines.specs.Machine.{LineEnd}
 use Rattle.tucson_notes.specs.Machine.{SumsUp, ahead_of, marked, bytes_per_line, cells_per_line, strict_put}
-use Rattle.tucson_notes.specs.declared.Ahead as machine-ahead
 use Rattle.tucson_notes.specs.declared.Fields as machine-fields
 use Rattle.tucson_notes.specs.declared.Marks as machine-marks
 use Rattle.tucson_walk.specs.declared.Series.{Series}

@@ -18,7 +18,6 @@ ghost use Rattle.tucson_walk.specs.Walking.{TakeAsks, TakeTold, TurnAsks, TurnTo
 use base_outcome::limits;
 use tucson_lines::units;
 use tucson_notes::{Ahead, Fields, Marks, kinds};
-use tucson_shown::Strict;
 
 // The line behind another one in its series: whether there is one, where the lines behind it begin, and how many bytes it has.
 #[derive(Clone, Copy)]
@@ -65,6 +64,7 @@ fn skip_blank(text: &[u8], from: usize) -> Unblank
     ensures { SkipTold text.now from result.at result.end }
 {
     let mut at = from;
+    // A `while`: the step is what the line's length says.
     while at < text.len() {
         let end = base_text::fields::find(text, at, text.len(), b'\n');
         if !tucson_shown::is_blank_line(text, at, end) {
@@ -88,8 +88,7 @@ fn differs(text: &[u8], past: usize, line: &[u8]) -> bool
     requires { FollowAsks text.now past line.now }
     ensures { DiffersTold text.now past line.now result }
 {
-    let mut i = 0;
-    while i < limits::NAME_COLUMNS {
+    for i in 0..limits::NAME_COLUMNS {
         let at = past + i;
         if at >= text.len() {
             return false;
@@ -103,7 +102,6 @@ fn differs(text: &[u8], past: usize, line: &[u8]) -> bool
         if text[at] != line[i] {
             return text[at] > b' ';
         }
-        i += 1;
     }
     false
 }
@@ -137,18 +135,14 @@ fn follow(
         return none;
     }
     let mut shown = [0; tucson_columns::CELLS];
-    let strict = tucson_shown::strict_line(text, at, end, &mut shown, next);
-    match strict {
-        Strict::Malformed => none,
-        Strict::NotAscii => none,
-        Strict::Line(m, n, site) => {
-            let same = same_name(line, next);
-            Following {
-                found: same,
-                past: end + 1,
-                size: n,
-            }
-        }
+    let Ok(l) = tucson_shown::strict_line(text, at, end, &mut shown, next) else {
+        return none;
+    };
+    let same = same_name(line, next);
+    Following {
+        found: same,
+        past: end + 1,
+        size: l.size,
     }
 }
 
@@ -181,6 +175,7 @@ fn series_ahead(
     let mut size = n;
     let mut at = past;
     let mut count = 1;
+    // A `loop`: the step is what the next line's length says.
     loop {
         let mut next = [0; tucson_columns::CELLS];
         let found = follow(text, at, &old[..size], &mut next);
@@ -427,27 +422,25 @@ fn step(
     }
     let mut shown = [0; tucson_columns::CELLS];
     let mut line = [0; tucson_columns::CELLS];
-    let strict = tucson_shown::strict_line(text, from, end, &mut shown, &mut line);
-    match strict {
-        Strict::Malformed => t,
-        Strict::NotAscii => t,
-        Strict::Line(m, n, site) => take_line(
-            text,
-            from,
-            end,
-            early,
-            number,
-            unit,
-            &shown[..m],
-            line,
-            n,
-            site,
-            t,
-            out,
-            lines,
-            notes,
-        ),
-    }
+    let Ok(l) = tucson_shown::strict_line(text, from, end, &mut shown, &mut line) else {
+        return t;
+    };
+    take_line(
+        text,
+        from,
+        end,
+        early,
+        number,
+        unit,
+        &shown[..l.shown],
+        line,
+        l.size,
+        l.site,
+        t,
+        out,
+        lines,
+        notes,
+    )
 }
 
 // The strict text of the lines that are kept, their numbers, and the notes of all lines from the index `at` on, as far as the buffers
@@ -484,6 +477,7 @@ pub fn walk(
     };
     let mut from = 0;
     let mut number = 1;
+    // A `while`: the step is what the line's length says.
     while from < text.len() {
         let end = base_text::fields::find(text, from, text.len(), b'\n');
         turn = step(

@@ -12,13 +12,12 @@ use Rattle.base_exact.proofs.Decide.{cond_true, cond_false}
 use Rattle.base_outcome.specs.Outcome.{Outcome, answer, refusal, refuse, capped, with_answer}
 use Rattle.base_outcome.specs.Tests.{refuse_first}
 use Rattle.base_text.specs.Bytes.{Text}
-use Rattle.base_print.specs.Buffer
 use Rattle.spec_tucson.specs.Series.{Series}
 use Rattle.spec_tucson.specs.Writing.{written, unwritable}
 use Rattle.spec_tucson.specs.WriteCall.{lists_fit, series_of, series_outcome, write_outcome, text_after, WriteEnd, write_end}
-use Rattle.base_outcome.specs.declared.Answer.TheVariants.{Count, Refused}
+use Rattle.std.specs.Prelude.{Ok, Err}
 use Rattle.tucson_putting.specs.Putting.{Wrote}
-use Rattle.base_outcome.specs.Machine.{reply}
+use Rattle.base_outcome.specs.Machine.{refused, reply}
 use Rattle.tucson_putting.proofs.Wrote.{written-whole}
 
 -- What a caller gives: four lists, and a buffer for the text.
@@ -94,13 +93,13 @@ module _ (given : Given) where
   abbrev end : WriteEnd
   end = write_end names years counts widths text
 
-  pub ends_refused : {code place : ℕ} → outcome ≡ refusal code place → (reply (Refused code place) ≡ end.answers) × (text ≡ end.text)
-  unfolding reply text_after
+  pub ends_refused : {code place : ℕ} → outcome ≡ refusal code place → (reply (Err (refused code place)) ≡ end.answers) × (text ≡ end.text)
+  unfolding text_after
   ends_refused e = (sym (ap (with_answer length) e), sym (ap (λ (o : Outcome Text). text_after o text) e))
 
   pub ends-written : {count : ℕ} {after : List ℕ} → outcome ≡ answer (written ss) → length (written ss) ≤ length text
-      → Wrote 0 (written ss) text after count → (reply (Count count) ≡ end.answers) × (after ≡ end.text)
-  unfolding reply text_after
+      → Wrote 0 (written ss) text after count → (reply (Ok count) ≡ end.answers) × (after ≡ end.text)
+  unfolding text_after
   ends-written e h w = (
     ap answer (w.behind ∙ omega arith) ∙ sym (ap (with_answer length) e),
     w.contents ∙ written-whole (written ss) text h ∙ sym (ap (λ (o : Outcome Text). text_after o text) e),

@@ -37,7 +37,7 @@ pub extern "C" fn walzhik_earlywood_indices(
         (result ≡ replied e.answers) × ((num.new ≡ e.numerators)
         × ((den.new ≡ e.denominators) × ((values.new ≡ e.values) × (indices.new ≡ e.indices)))) }
 {
-    let answer: base_outcome::Answer = indices::indices(
+    let answer = indices::indices(
         curve_ordinates::Wood::Earlywood,
         breaks,
         degrees,
@@ -81,7 +81,7 @@ pub extern "C" fn walzhik_latewood_indices(
         (result ≡ replied e.answers) × ((num.new ≡ e.numerators)
         × ((den.new ≡ e.denominators) × ((values.new ≡ e.values) × (indices.new ≡ e.indices)))) }
 {
-    let answer: base_outcome::Answer = indices::indices(
+    let answer = indices::indices(
         curve_ordinates::Wood::Latewood,
         breaks,
         degrees,
@@ -116,7 +116,7 @@ pub extern "C" fn walzhik_earlywood_ring_lines(
     }) out.old in
         (result ≡ replied e.answers) × (out.new ≡ e.text) }
 {
-    let answer: base_outcome::Answer = table_lines::ring_lines(
+    let answer = table_lines::ring_lines(
         curve_ordinates::Wood::Earlywood,
         name,
         first,
@@ -147,7 +147,7 @@ pub extern "C" fn walzhik_latewood_ring_lines(
     }) out.old in
         (result ≡ replied e.answers) × (out.new ≡ e.text) }
 {
-    let answer: base_outcome::Answer = table_lines::ring_lines(
+    let answer = table_lines::ring_lines(
         curve_ordinates::Wood::Latewood,
         name,
         first,

@@ -1,2 +1,1 @@
--- The crate's hand-written modules.
-pub mod Replied
+-- No law of its own.

@@ -5,7 +5,7 @@ ghost use Rattle.std.specs.Prelude.{◌≡◌};
 ghost use Rattle.base_outcome.specs.Machine.{reply};
 ghost use Rattle.walzhik_reply.specs.Machine.{replied};
 
-use base_outcome::Answer;
+use base_outcome::Refusal;
 
 // The count of rows, positions, rings, series or bytes, with code 0 and place 0; or count 0 with a refusal's code and place.
 #[repr(C)]
@@ -16,32 +16,20 @@ pub struct Reply {
     pub place: u32,
 }
 
-fn answered(count: usize) -> Reply
-    ensures { (result.count ≡ count) × ((result.number ≡ 0) × (result.place ≡ 0)) }
-{
-    Reply {
-        count: count as u64,
-        number: 0,
-        place: 0,
-    }
-}
-
-fn refused(code: u8, place: u32) -> Reply
-    ensures { (result.count ≡ 0) × ((result.number ≡ code) × (result.place ≡ place)) }
-{
-    Reply {
-        count: 0,
-        number: code as u32,
-        place: place,
-    }
-}
-
 // The struct of what a call answers.
-pub fn reply_of(answer: Answer) -> Reply
+pub fn reply_of(answer: Result<usize, Refusal>) -> Reply
     ensures { result ≡ replied (reply answer) }
 {
     match answer {
-        Answer::Count(n) => answered(n),
-        Answer::Refused(code, place) => refused(code, place),
+        Ok(count) => Reply {
+            count: count as u64,
+            number: 0,
+            place: 0,
+        },
+        Err(refusal) => Reply {
+            count: 0,
+            number: refusal.code as u32,
+            place: refusal.place,
+        },
     }
 }

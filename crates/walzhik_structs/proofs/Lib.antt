@@ -1,4 +1,2 @@
--- The crate's hand-written modules.
-pub mod Reached
+-- The crate's hand-written module.
 pub mod Struct
-pub mod Parts

@@ -6,6 +6,8 @@ use Prim.Native.Nat.{ℕ, ◌-◌}
 use lib.Ieee.{Float, binary64, of_bits}
 use lib.IntN.{ℤ, pos}
 use lib.ListN.{length, replicate}
+use Rattle.std.specs.Prelude.{Result, Ok, Err}
+use Rattle.base_outcome.specs.declared.Refusal.{Refusal}
 use Rattle.base_outcome.specs.Outcome.{Outcome, answer, refusal}
 use Rattle.spec_spline.specs.Reading.{fineness}
 use Rattle.curve_drawing.specs.Floats.{Is, Each, none, more}
@@ -14,8 +16,6 @@ use Rattle.spec_calls.specs.Pieces as pieces
 use Rattle.curve_pieces.specs.Machine.{Shows, Replies, drawn, refused}
 use Rattle.curve_pieces.specs.declared.Ends.{Ends}
 use Rattle.curve_pieces.specs.declared.Drawing.{Drawing}
-use Rattle.curve_pieces.specs.declared.PieceAnswer.{PieceAnswer}
-use Rattle.curve_pieces.specs.declared.PieceAnswer.TheVariants.{Drawn, Refused}
 use Rattle.walzhik_structs.specs.declared.Piece.{Piece}
 use Rattle.walzhik_structs.specs.Piece.{room, Sent}
 
@@ -31,6 +31,21 @@ nought_is d = (refl, omega arith)
 abbrev pub struct : ℕ → Float → Float → Float → Float → Ends → Piece
 struct degree o0 o1 o2 o3 ends =
     record { number = 0; place = 0; degree = degree; unused = 0; o0 = o0; o1 = o1; o2 = o2; o3 = o3; start = ends.start; end = ends.end }
+
+-- the struct of a refusal
+abbrev pub not_sent : Refusal → Piece
+not_sent r = record {
+  number = r.code;
+  place = r.place;
+  degree = 0;
+  unused = 0;
+  o0 = nought;
+  o1 = nought;
+  o2 = nought;
+  o3 = nought;
+  start = nought;
+  end = nought;
+}
 
 -- ordinates with zeros behind them
 record Padded (degree : ℕ) (xs : List Float) (zs : List ℤ) : Type 0 where
@@ -104,14 +119,20 @@ module _ (w : Drawing) (p : pieces.Piece) {r : Piece} where
       subst (λ t. Sent t (answer p)) (sym e)
       (cubic-sent w.ends p a b c d (subst (λ q. Shows (record { curve = q; ends = w.ends }) p) k s))
 
-pub drawn_sent : (r : Piece) {a : PieceAnswer} {o : Outcome pieces.Piece} → Replies a o → (w : Drawing) → a ≡ Drawn w
+pub drawn_sent : (r : Piece) {a : Result Drawing Refusal} {o : Outcome pieces.Piece} → Replies a o → (w : Drawing) → a ≡ Ok w
     → ((p : pieces.Piece) → Shows w p → Sent r (answer p)) → Sent r o
 drawn_sent r (drawn {r = v} {p = p} s) w k h = h p (subst (λ x. Shows x p) (let z : v ≡ w = cc in z) s)
 drawn_sent r refused w k h = absurd (let z : ◌≡◌ {A = ℕ} 0 1 = cc in omega arith)
 
-pub refused_sent : (r : Piece) {a : PieceAnswer} {o : Outcome pieces.Piece} → Replies a o → (code place : ℕ) → a ≡ Refused code place
-    → Sent r (refusal code place) → Sent r o
-refused_sent r (drawn s) code place k h = absurd (let z : ◌≡◌ {A = ℕ} 0 1 = cc in omega arith)
-refused_sent r (refused {code = m} {place = q}) code place k h =
-    subst (λ y. Sent r (refusal m y)) (let z : place ≡ q = cc in z)
-    (subst (λ x. Sent r (refusal x place)) (let z : code ≡ m = cc in z) h)
+-- number and place, and zeros
+pub refused_sent : (r : Refusal) {a : Result Drawing Refusal} {o : Outcome pieces.Piece} → Replies a o → a ≡ Err r → Sent (not_sent r) o
+refused_sent r (drawn s) k = absurd (let z : ◌≡◌ {A = ℕ} 0 1 = cc in omega arith)
+refused_sent r (refused {r = v}) k = subst (λ w. Sent (not_sent r) (refusal w.code w.place)) (let z : r ≡ v = cc in z) (record {
+  code_is = refl;
+  place_is = refl;
+  degree_is = refl;
+  unused_is = refl;
+  ordinates_are = more (nought_is 256) (more (nought_is 256) (more (nought_is 256) (more (nought_is 256) none)));
+  start_is = nought_is 1;
+  end_is = nought_is 1;
+})

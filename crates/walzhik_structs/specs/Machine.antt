@@ -1,5 +1,5 @@
 -- A reach call's outcome as the struct that C and Rust receive.
-use Rattle.std.specs.Prelude.{ℕ, ℤ, pos}
+use Rattle.std.specs.Prelude.{ℤ, pos}
 use Rattle.base_outcome.specs.Outcome.{Outcome, answer, refusal}
 use Rattle.walzhik_structs.specs.declared.Reach.{Reach}
 

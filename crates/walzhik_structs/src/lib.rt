@@ -2,14 +2,16 @@
 #![tactic(auto)]
 
 ghost use Rattle.std.specs.Prelude.{◌≡◌};
-ghost use Rattle.base_outcome.specs.Outcome.{Outcome, answer, refusal};
+ghost use Rattle.base_outcome.specs.Outcome.{Outcome, answer};
+ghost use Rattle.base_outcome.specs.Machine.{reply};
 ghost use Rattle.tucson_clean.specs.Machine.{counts};
-ghost use Rattle.curve_reach.specs.Machine.{reply};
 ghost use Rattle.spec_calls.specs.Pieces as pieces;
 ghost use Rattle.curve_pieces.specs.Machine.{Shows, Replies};
 ghost use Rattle.walzhik_structs.specs.Machine.{reached};
 ghost use Rattle.walzhik_structs.specs.Piece.{Sent};
 ghost use Rattle.walzhik_structs.specs.File.{cleaned};
+
+use base_outcome::Refusal;
 
 // The position with code 0 and place 0; or position 0 with a refusal's code and place.
 #[repr(C)]
@@ -48,51 +50,43 @@ pub struct Piece {
     pub end: f64,
 }
 
-fn cleaned_struct(bytes: u64, lines: u64, notes: u64, code: u32, at: u32) -> Cleaned
-    ensures { (result.bytes ≡ bytes) × ((result.lines ≡ lines) × ((result.notes ≡ notes) × ((result.number ≡ code) × (result.place ≡ at)))) }
-{
-    Cleaned {
-        bytes: bytes,
-        lines: lines,
-        notes: notes,
-        number: code,
-        place: at,
-    }
-}
-
 // The struct of what the call for laboratories' files answers.
-pub fn cleaned_of(answer: tucson_clean::Cleaned) -> Cleaned
+pub fn cleaned_of(answer: Result<tucson_clean::Counts, Refusal>) -> Cleaned
     ensures { result ≡ cleaned (counts answer) }
 {
     match answer {
-        tucson_clean::Cleaned::Counts(bytes, lines, notes) => cleaned_struct(
-            bytes as u64,
-            lines as u64,
-            notes as u64,
-            0,
-            0,
-        ),
-        tucson_clean::Cleaned::Refused(code, place) => cleaned_struct(0, 0, 0, code as u32, place),
-    }
-}
-
-fn reach_struct(position: i32, code: u32, at: u32) -> Reach
-    ensures { (result.position ≡ position) × ((result.number ≡ code) × (result.place ≡ at)) }
-{
-    Reach {
-        position: position,
-        number: code,
-        place: at,
+        Ok(made) => Cleaned {
+            bytes: made.bytes as u64,
+            lines: made.lines as u64,
+            notes: made.notes as u64,
+            number: 0,
+            place: 0,
+        },
+        Err(refusal) => Cleaned {
+            bytes: 0,
+            lines: 0,
+            notes: 0,
+            number: refusal.code as u32,
+            place: refusal.place,
+        },
     }
 }
 
 // The struct of what a reach call answers.
-pub fn reach_of(answer: curve_reach::ReachAnswer) -> Reach
+pub fn reach_of(answer: Result<i32, Refusal>) -> Reach
     ensures { result ≡ reached (reply answer) }
 {
     match answer {
-        curve_reach::ReachAnswer::Reached(x) => reach_struct(x, 0, 0),
-        curve_reach::ReachAnswer::Refused(code, place) => reach_struct(0, code as u32, place),
+        Ok(position) => Reach {
+            position,
+            number: 0,
+            place: 0,
+        },
+        Err(refusal) => Reach {
+            position: 0,
+            number: refusal.code as u32,
+            place: refusal.place,
+        },
     }
 }
 
@@ -136,29 +130,23 @@ fn sent(drawing: curve_pieces::Drawing) -> Piece
     }
 }
 
-fn not_sent(code: u8, place: u32) -> Piece
-    ensures { Sent result (refusal code place) }
-{
-    Piece {
-        number: code as u32,
-        place,
-        degree: 0,
-        unused: 0,
-        o0: 0.0,
-        o1: 0.0,
-        o2: 0.0,
-        o3: 0.0,
-        start: 0.0,
-        end: 0.0,
-    }
-}
-
 // The struct of what a piece call answers.
-pub fn piece_of(answer: curve_pieces::PieceAnswer) -> Piece
+pub fn piece_of(answer: Result<curve_pieces::Drawing, Refusal>) -> Piece
     ensures { (o : Outcome pieces.Piece) → Replies answer o → Sent result o }
 {
     match answer {
-        curve_pieces::PieceAnswer::Drawn(drawing) => sent(drawing),
-        curve_pieces::PieceAnswer::Refused(code, place) => not_sent(code, place),
+        Ok(drawing) => sent(drawing),
+        Err(refusal) => Piece {
+            number: refusal.code as u32,
+            place: refusal.place,
+            degree: 0,
+            unused: 0,
+            o0: 0.0,
+            o1: 0.0,
+            o2: 0.0,
+            o3: 0.0,
+            start: 0.0,
+            end: 0.0,
+        },
     }
 }

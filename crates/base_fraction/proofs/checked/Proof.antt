@@ -8,7 +8,7 @@ use mir.Val.{SFits}
 use mir.ValLaws.{to_z-of_z}
 use Rattle.base_exact.specs.Rational.{ℚ, den}
 use Rattle.base_fraction.specs.Machine.{fraction, ratio}
-use Rattle.base_fraction.specs.declared.Counted.TheVariants.{Fits}
+use Rattle.std.specs.Prelude.{Some}
 use Rattle.base_fraction.proofs.Size.{small-fits, num_large, den_large}
 use Rattle.base_fraction.proofs.Answer.{answer-fits, answer_large}
 use Rattle.base_fraction.proofs.checked.Statement.{statement}
@@ -44,7 +44,7 @@ returns-2 c = let l = c.before.before.before.before.before.before in let p = q l
 returns-3 : tie.Need-returns
 returns-3 c =
     let l = c.before.before.before.before.before.before in
-    ap Fits (lowest-is l)
+    ap Some (lowest-is l)
     ∙ sym (answer-fits (q l) (small-fits (q l) (omega (arith, num_is c.before.before.before.before)) (omega (arith, den_is c.before))))
 
 pub checked_spec : {M : Type 1} → statement M

@@ -9,6 +9,7 @@ use lib.IntN.{ℤ}
 use lib.ListN.{length, take, drop, length-drop}
 use lib.Seq.{length-take-le}
 use borrow.Rule.Slice.PartMut.{put_mid, same_len_mid}
+use Rattle.std.specs.Prelude.{Ok}
 use Rattle.spec_spline.specs.Space.{Space, part_end, first_column, column_count}
 use Rattle.spec_spline.proofs.Space.{first_column_mono}
 use Rattle.spec_spline.proofs.Parts.{part-ends}
@@ -16,7 +17,6 @@ use Rattle.theorems_beams.specs.Sections.{part_at}
 use Rattle.build_space.specs.Machine.{space}
 use Rattle.build_space.proofs.Legal.{legal_column-count-high}
 use Rattle.build_space.proofs.Partial.{part_end_partial, first-column_partial}
-use Rattle.base_outcome.specs.declared.Answer.TheVariants.{Count}
 use Rattle.build.proofs.Beam.{starts, rows-high}
 use Rattle.curve_parts.specs.Parts.{Lent, lent}
 use Rattle.curve_parts.proofs.Fronts.{Front, front-first, rows-within, columns_more, front_more, front_refused, front-whole}
@@ -171,7 +171,7 @@ module _ (c : tie.After-build_part-built invariant-loop decreases-loop) where
       (put_mid column (end - column) (held placed).early left.early) (put_mid column (end - column) (held placed).late left.late)
 
   -- one part more
-  more : {n : ℕ} → c.build_part-built.result ≡ Count n
+  more : {n : ℕ} → c.build_part-built.result ≡ Ok n
       → Front (lists begun) (coefs begun) (lent₀ begun) ((turn placed).loop-a.row + n) end at.part_end-b.result after
   more e = front_more (lists begun) begun.requires.legal _ _ (front placed) (taken at.before) end (columns_end placed)
       c.build_part-built.result {l' = left} c.build_part-built.ensures at.part_end-b.result (end_is at) e
@@ -198,18 +198,18 @@ module _ (c : tie.After-build_part-built invariant-loop decreases-loop) where
 add_row : tie.Need-overflow_add-row invariant-loop decreases-loop
 add_row c =
     let m = c in
-    omega (arith, rows-high _ _ _ (begun m.before.before.before.before.before).requires.legal (more m.before.before.before.before.before c.in-Count.is).state)
+    omega (arith, rows-high _ _ _ (begun m.before.before.before.before.before).requires.legal (more m.before.before.before.before.before c.in-Ok.is).state)
 
 add-place : tie.Need-overflow_add-a invariant-loop decreases-loop
 add-place c =
     let m = c in
-    omega (arith, taken (at m.before.before.before.before.before).before, (begun m.before.before.before.before.before).requires.legal.few)
+    omega (arith, taken (at m.before.before.before.before.before.before).before, (begun m.before.before.before.before.before.before).requires.legal.few)
 
-returns : tie.Need-returns-in-Refused invariant-loop decreases-loop
+returns : tie.Need-returns-in-Err invariant-loop decreases-loop
 returns c =
     let m = c in
-    front_refused (lists (begun m.before.before.before.before.before.before)) (begun m.before.before.before.before.before.before).requires.legal _ _ (front (placed m.before.before.before.before.before.before)) (taken (at m.before.before.before.before.before.before).before) (end m.before.before.before.before.before.before) (columns_end (placed m.before.before.before.before.before.before))
-    m.build_part-built.result {l' = left m.before.before.before.before.before.before} m.build_part-built.ensures c.in-Refused.is c.place.ensures
+    front_refused (lists (begun m.before.before.before.before.before.before.before)) (begun m.before.before.before.before.before.before.before).requires.legal _ _ (front (placed m.before.before.before.before.before.before.before)) (taken (at m.before.before.before.before.before.before.before).before) (end m.before.before.before.before.before.before.before) (columns_end (placed m.before.before.before.before.before.before.before))
+    m.build_part-built.result {l' = left m.before.before.before.before.before.before.before} m.build_part-built.ensures c.in-Err.is c.place.ensures
 
 loop-less : tie.Need-loop-a-smaller invariant-loop decreases-loop
 loop-less c =
@@ -224,7 +224,7 @@ loop-again c =
       den_long = den-kept m.before.before.before.before.before;
       early_long = early_kept m.before.before.before.before.before;
       late_long = late_kept m.before.before.before.before.before;
-      front = more m.before.before.before.before.before c.in-Count.is;
+      front = more m.before.before.before.before.before c.in-Ok.is;
     }
 
 returns-2 : tie.Need-returns invariant-loop decreases-loop
@@ -243,9 +243,9 @@ build_parts_spec =
     (λ c. let f = c in omega (arith, size f.before.before.before, columns_few f.before.before.before, late_room f.before.before.before))
     (λ c. let f = c in omega (arith, size f.before.before.before, columns_few f.before.before.before, late_room f.before.before.before)) build-part-requires (λ c. search rules)
     add_row (λ c. search rules) (λ c. omega arith) add-place (λ c κs. tt)
-    (λ c. let m = c in num_kept m.before.before.before.before.before.before)
-    (λ c. let m = c in den-kept m.before.before.before.before.before.before)
-    (λ c. let m = c in early_kept m.before.before.before.before.before.before)
-    (λ c. let m = c in late_kept m.before.before.before.before.before.before) returns loop-less loop-again
+    (λ c. let m = c in num_kept m.before.before.before.before.before.before.before)
+    (λ c. let m = c in den-kept m.before.before.before.before.before.before.before)
+    (λ c. let m = c in early_kept m.before.before.before.before.before.before.before)
+    (λ c. let m = c in late_kept m.before.before.before.before.before.before.before) returns loop-less loop-again
     (λ c. c.loop-a.invariant.num_long) (λ c. c.loop-a.invariant.den_long) (λ c. c.loop-a.invariant.early_long)
     (λ c. c.loop-a.invariant.late_long) returns-2)

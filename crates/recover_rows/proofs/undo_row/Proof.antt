@@ -11,7 +11,7 @@ use Rattle.base_exact.specs.Rational.{ℚ, int}
 use Rattle.base_exact.proofs.Rational.{zero_is}
 use Rattle.base_fraction.specs.Machine.{fraction}
 use Rattle.base_fraction.specs.declared.Fraction.{Fraction}
-use Rattle.base_fraction.specs.declared.Counted.TheVariants.{Fits}
+use Rattle.std.specs.Prelude.{Some}
 use Rattle.base_fraction.proofs.Answer.{fits-sized}
 use Rattle.base_outcome.specs.Outcome.{answer}
 use Rattle.spec_spline.specs.Table.{entry}
@@ -44,7 +44,7 @@ unfolding counted
 returns c j us ps e h =
     let a = c in
     let s = (begun a.before).args in
-    ap Fits (a.fraction_at-coefficient.ensures ps h) ∙ sym (ap counted (first-row j us ps s.f s.i c.if-i-f.true))
+    ap Some (a.fraction_at-coefficient.ensures ps h) ∙ sym (ap counted (first-row j us ps s.f s.i c.if-i-f.true))
 
 -- the row's coefficient, its factor and the coefficient of the row before are read
 module _ (c : tie.After-fraction_at-before) where

@@ -13,9 +13,7 @@ use Rattle.base_exact.proofs.Word.{to_z-of_z}
 use Rattle.base_text.specs.Bytes.{Text}
 use Rattle.spec_tucson.specs.Line.{is_name}
 use Rattle.spec_tucson.specs.Series.{Series}
-use Rattle.spec_rings.specs.Ready.{ready}
 use Rattle.rings_read.specs.Machine.{Front}
-use Rattle.rings_pieces.specs.Piece.{piece_of}
 use Rattle.rings_pieces.proofs.Turns.{series_at}
 use Rattle.rings_pieces.proofs.Pieces.{name-named, name_is, year_is, count_is, widths_fit, widths_are, fits, text_is}
 use Rattle.rings_pieces.proofs.put_piece.Statement.{statement}

@@ -1,8 +1,7 @@
 -- `put_fault` meets its contract: the name at the front, and the texts behind it one after another.
 use borrow.Author.Rules.{rules}
 use native.Mathlib.Omega.{arith}
-use mathlib.Core.Path.{◌≡◌}
-use Prim.Native.Nat.{ℕ, ◌≤◌}
+use Prim.Native.Nat.{◌≤◌}
 use lib.ListN.{length}
 use mir.Syntax.{w64}
 use mir.Val.{SFits}

@@ -1,7 +1,7 @@
 -- `year_of` meets its contract: 32 bits and a ring below 2^62 stay far within 64 bits.
 use borrow.Author.Rules.{rules}
 use native.Mathlib.Omega.{arith}
-use lib.IntN.{ℤ, pos, ◌+ℤ◌}
+use lib.IntN.{pos, ◌+ℤ◌}
 use mir.Syntax.{w32, w64}
 use mir.Val.{SFits}
 use Rattle.base_exact.proofs.Word.{to_z-of_z, to_z_pos, sfits_widen, sfits_abs, sfits_nat, abs_sfits, abs-add}

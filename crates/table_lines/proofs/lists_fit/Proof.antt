@@ -1,5 +1,4 @@
 -- `lists_fit` meets its contract: each return is picked by the tests that led there.
-use borrow.Author.Rules.{rules}
 use native.Mathlib.Omega.{arith}
 use mathlib.Core.Path.{sym}
 use mathlib.Core.Bool.{and-false}

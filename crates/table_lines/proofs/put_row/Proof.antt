@@ -1,8 +1,6 @@
 -- `put_row` meets its contract: the name, and the numbers behind it.
 use borrow.Author.Rules.{rules}
 use native.Mathlib.Omega.{arith}
-use mir.Syntax.{w32, w64}
-use mir.Val.{SFits}
 use Rattle.base_exact.proofs.Word.{to_z-of_z}
 use Rattle.tucson_putting.proofs.Wrote.{wrote_then, wrote_length}
 use Rattle.table_lines.proofs.put_row.Statement.{statement}

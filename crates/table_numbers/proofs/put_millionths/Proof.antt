@@ -1,7 +1,7 @@
 -- `put_millionths` meets its contract: the sign, then wholes, point and six digits.
 use borrow.Author.Rules.{rules}
 use native.Mathlib.Omega.{arith}
-use mathlib.Core.Path.{◌≡◌, ap, ◌∙◌}
+use mathlib.Core.Path.{◌≡◌, ap}
 use mathlib.Core.List.{◌∷◌, ◌++◌}
 use Prim.Native.Nat.{ℕ, ◌/◌}
 use lib.IntN.{nat_abs}

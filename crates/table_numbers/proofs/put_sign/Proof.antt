@@ -1,14 +1,12 @@
 -- `put_sign` meets its contract: one store below zero, none otherwise.
 use borrow.Author.Rules.{rules}
 use native.Mathlib.Omega.{arith}
-use mathlib.Core.Path.{◌≡◌, sym, ap, ◌∙◌}
+use mathlib.Core.Path.{◌≡◌, ap}
 use mathlib.Core.List.{[], ◌∷◌}
 use lib.ListN.{length}
-use lib.Signed.{◌<ℤ◌}
-use lib.IntN.{pos}
 use Rattle.base_exact.proofs.Word.{to_z-of_z, lt_z_true, lt_z_false}
 use Rattle.base_text.specs.Bytes.{minus}
-use Rattle.base_print.proofs.Buffer.{written_byte, written_none}
+use Rattle.base_print.proofs.Buffer.{written_byte}
 use Rattle.spec_table.specs.Decimals.{sign}
 use Rattle.tucson_putting.proofs.Wrote.{wrote_none, wrote_as}
 use Rattle.table_numbers.proofs.Digits.{sign_below, sign-none}

@@ -1,7 +1,7 @@
 -- A blank line is none; any other is one below the header.
 use borrow.Author.Rules.{rules}
 use mathlib.Core.Bool.{Bool, ◌&&◌, not}
-use mathlib.Core.Path.{◌≡◌, sym, ◌∙◌, ap}
+use mathlib.Core.Path.{sym, ◌∙◌, ap}
 use lib.Dec.{ltb}
 use Rattle.spec_tucson.specs.KeptLines.{is_data}
 use Rattle.tucson_check.proofs.is_data.Statement.{statement}

@@ -1,5 +1,4 @@
 -- One of three numbers.
-use borrow.Author.Rules.{rules}
 use borrow.Author.Tests.{eq-eqb, ne_eqb}
 use native.Mathlib.Omega.{arith}
 use Rattle.spec_tucson.specs.CleanCall.{is_unit_option}

@@ -1,7 +1,7 @@
 -- The test of one byte.
 use borrow.Author.Tests.{eq-eqb, ne_eqb}
 use mathlib.Core.Bool.{Bool, cond}
-use mathlib.Core.Path.{◌≡◌, sym, ap}
+use mathlib.Core.Path.{sym, ap}
 use Rattle.tucson_file.proofs.is_end.Statement.{statement}
 use Rattle.tucson_file.proofs.is_end.Tie as tie
 

@@ -1,6 +1,6 @@
 -- The three bytes of a mark.
 use borrow.Author.Rules.{rules}
-use mathlib.Core.Path.{◌∙◌, ap, sym}
+use mathlib.Core.Path.{◌∙◌, ap}
 use lib.Seq.{take-length}
 use Rattle.base_text.specs.Bytes.{begins_with}
 use Rattle.spec_tucson.specs.FileText.{byte_order_mark, is_marked}

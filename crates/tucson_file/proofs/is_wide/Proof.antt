@@ -1,6 +1,5 @@
 -- The two bytes in either order.
 use borrow.Author.Rules.{rules}
-use mathlib.Core.Bool.{Bool, ◌||◌}
 use mathlib.Core.List.{[], ◌∷◌}
 use mathlib.Core.Path.{◌∙◌, ap, sym}
 use lib.Seq.{take-length}

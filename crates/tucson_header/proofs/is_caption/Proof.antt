@@ -1,7 +1,6 @@
 -- Two tests.
-use borrow.Author.Rules.{rules}
 use mathlib.Core.Bool.{Bool, ◌&&◌, not}
-use mathlib.Core.Path.{◌≡◌, refl, sym, ◌∙◌, ap, ap₂}
+use mathlib.Core.Path.{sym, ◌∙◌, ap, ap₂}
 use Prim.Native.Nat.{◌+◌}
 use lib.Seq.{slice}
 use Rattle.spec_tucson.specs.KeptLines.{reads_strictly, captions}

@@ -1,14 +1,9 @@
 -- The line that was found stays; else this line is tested.
-use borrow.Author.Rules.{rules}
-use mathlib.Core.Bool.{Bool, cond}
-use mathlib.Core.Option.{Option, some, none}
-use mathlib.Core.Path.{◌≡◌, refl, sym, ◌∙◌, ap, ap₂}
-use Prim.Native.Nat.{ℕ, ◌+◌}
+use mathlib.Core.Path.{sym, ◌∙◌}
+use Prim.Native.Nat.{◌+◌}
 use lib.Seq.{slice}
-use Rattle.base_outcome.specs.Search.{or_else}
 use Rattle.spec_tucson.specs.Shown.{is_blank_line}
 use Rattle.spec_tucson.specs.KeptLines.{reads_strictly}
-use Rattle.tucson_lines.specs.Machine.{line_found}
 use Rattle.tucson_lines.proofs.Found.{line_kept}
 use Rattle.tucson_header.proofs.HeaderLines.{found-blank, found_strict, found_other}
 use Rattle.tucson_header.proofs.strict_found.Statement.{statement}

@@ -1,5 +1,5 @@
 -- Hundredths, or thousandths.
-use mathlib.Core.Path.{◌≡◌, sym}
+use mathlib.Core.Path.{sym}
 use Rattle.tucson_judge.proofs.Closing.{closing-hundredths, closing-thousandths}
 use Rattle.tucson_judge.proofs.closing_of.Statement.{statement}
 use Rattle.tucson_judge.proofs.closing_of.Tie as tie

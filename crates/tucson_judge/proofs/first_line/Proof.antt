@@ -1,7 +1,7 @@
 -- The line that is there, this line, or none.
 use mathlib.Core.Bool.{Bool, cond}
-use mathlib.Core.Option.{Option, some, none}
-use mathlib.Core.Path.{◌≡◌, sym, ◌∙◌, ap}
+use mathlib.Core.Option.{some, none}
+use mathlib.Core.Path.{sym, ◌∙◌, ap}
 use Rattle.base_outcome.specs.Search.{or_else}
 use Rattle.tucson_lines.specs.Machine.{line_found}
 use Rattle.tucson_lines.proofs.Found.{line_kept, no_line, line_some, line-none}

@@ -1,6 +1,6 @@
 -- The test of each unit.
 use borrow.Author.Rules.{rules}
-use mathlib.Core.Path.{◌≡◌, sym, ◌∙◌}
+use mathlib.Core.Path.{sym, ◌∙◌}
 use Rattle.base_exact.proofs.Word.{to_z-of_z}
 use Rattle.tucson_judge.proofs.Closing.{fault_unsaid, fault-hundredths, fault-thousandths}
 use Rattle.tucson_judge.proofs.is_unit_fault.Statement.{statement}

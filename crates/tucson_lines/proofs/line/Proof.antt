@@ -10,7 +10,7 @@ use Rattle.base_text.specs.Bytes.{Text}
 use Rattle.base_text.proofs.Slice.{take_slice}
 use Rattle.spec_tucson.specs.Line.{name_columns, field_columns, columns_fit, is_name, good_line}
 use Rattle.tucson_lines.specs.Machine.{line_told, numerals_told}
-use Rattle.tucson_lines.specs.declared.LineAnswer.TheVariants.{Bad}
+use Rattle.std.specs.Prelude.{None}
 use Rattle.tucson_lines.proofs.Lines.{end_within, good-unended}
 use Rattle.tucson_lines.proofs.LineNumerals.{body, count_is, good_misfits, good-fits, misfit_short, misfit_over, misfit_many, fit}
 use Rattle.tucson_lines.proofs.line.Statement.{statement}
@@ -65,7 +65,7 @@ unfolding line_told
 returns c = let s = c in sym (ap line_told (good-unended s.args.text.now s.args.from s.args.end s.requires true c.if-end-text.true))
 
 -- a line whose columns don't fit
-misfits : (c : tie.Else-end-text) → columns_fit (columns c) ≡ false → Bad ≡ line_told (good_line true (slice (from c) (end c + 1) (text c)))
+misfits : (c : tie.Else-end-text) → columns_fit (columns c) ≡ false → None ≡ line_told (good_line true (slice (from c) (end c + 1) (text c)))
 unfolding line_told
 misfits c e = sym (ap line_told (good_misfits (text c) (from c) (end c) (s c).requires (ended c) (ap (λ (b : Bool). b && is_name (take name_columns (columns c))) e)))
 

@@ -1,6 +1,6 @@
 -- The first byte says how many follow, and the range of the first of them; the others are in one range.
 use borrow.Author.Rules.{rules}
-use borrow.Author.Tests.{not-true, not-false, ne_eqb}
+use borrow.Author.Tests.{ne_eqb}
 use mathlib.Core.Bool.{Bool, false, cond}
 use mathlib.Core.Option.{none}
 use mathlib.Core.Path.{◌≡◌, sym, ◌∙◌, ap, ap₂}

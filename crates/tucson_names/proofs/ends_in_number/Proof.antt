@@ -1,6 +1,6 @@
 -- The last column is a digit, and what stands before the digits is tested.
 use borrow.Author.Rules.{rules}
-use mathlib.Core.Path.{◌≡◌, refl, sym, ◌∙◌}
+use mathlib.Core.Path.{refl, sym, ◌∙◌}
 use Rattle.tucson_names.proofs.NameColumns.{yes_and, no_and, number_by_bytes}
 use Rattle.tucson_names.proofs.ends_in_number.Statement.{statement}
 use Rattle.tucson_names.proofs.ends_in_number.Tie as tie

@@ -1,7 +1,5 @@
 -- Two tests of the byte.
 use borrow.Author.Tests.{le-leb, lt-leb}
-use mathlib.Core.Bool.{Bool, ◌&&◌}
-use mathlib.Core.Path.{◌≡◌}
 use Rattle.base_text.specs.Bytes.{digit_zero}
 use Rattle.tucson_names.proofs.NameColumns.{digit_top}
 use Rattle.tucson_names.proofs.is_digit.Statement.{statement}

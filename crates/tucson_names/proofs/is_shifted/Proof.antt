@@ -1,7 +1,7 @@
 -- Each return is one of the cases of the three tests.
 use borrow.Author.Rules.{rules}
 use borrow.Author.Tests.{eq-eqb, ne_eqb}
-use mathlib.Core.Path.{◌≡◌, refl, sym, ◌∙◌}
+use mathlib.Core.Path.{refl, sym, ◌∙◌}
 use Rattle.tucson_names.proofs.NameColumns.{yes_or, no_or, yes_and, no_and, shifted_by_bytes}
 use Rattle.tucson_names.proofs.is_shifted.Statement.{statement}
 use Rattle.tucson_names.proofs.is_shifted.Tie as tie

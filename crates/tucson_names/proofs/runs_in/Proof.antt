@@ -1,6 +1,6 @@
 -- Each return is one of the cases of a line that is a series by itself or not.
 use borrow.Author.Rules.{rules}
-use mathlib.Core.Path.{◌≡◌, refl, sym, ◌∙◌}
+use mathlib.Core.Path.{refl, sym, ◌∙◌}
 use Rattle.spec_tucson.specs.CleanSeries.{runs_in}
 use Rattle.tucson_names.proofs.NameColumns.{yes_or, no_or, yes_and, no_and}
 use Rattle.tucson_names.proofs.runs_in.Statement.{statement}

@@ -1,7 +1,7 @@
 -- Each return is one of the cases of the two tests.
 use borrow.Author.Rules.{rules}
 use mathlib.Core.Bool.{Bool, ◌||◌}
-use mathlib.Core.Path.{◌≡◌, refl, sym, ◌∙◌, ap}
+use mathlib.Core.Path.{refl, sym, ◌∙◌, ap}
 use lib.Dec.{eqb}
 use lib.ListN.{get_or}
 use Rattle.spec_tucson.specs.Columns.{blank}

@@ -1,6 +1,5 @@
 -- The last line, or the one before a last line that has the closing alone.
 use borrow.Author.Tests.{eq-eqb, ne_eqb}
-use mathlib.Core.Path.{◌≡◌, ap, ◌∙◌, sym}
 use native.Mathlib.Omega.{arith}
 use Rattle.spec_tucson.specs.CleanNotes.{has_last_width}
 use Rattle.tucson_notes.specs.Machine.{ahead_of}

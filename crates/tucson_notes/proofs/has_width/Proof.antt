@@ -1,6 +1,6 @@
 -- The closing is no width.
-use mathlib.Core.Path.{◌≡◌, ap, ◌∙◌, sym}
-use mathlib.Core.Bool.{Bool, not}
+use mathlib.Core.Path.{ap, ◌∙◌}
+use mathlib.Core.Bool.{Bool}
 use Rattle.spec_tucson.specs.CleanNotes.{is_empty}
 use Rattle.tucson_notes.specs.Machine.{widths_on}
 use Rattle.tucson_notes.proofs.Remarks.{empty-last, empty_other}

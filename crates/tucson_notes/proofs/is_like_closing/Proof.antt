@@ -1,15 +1,15 @@
 -- The closing of thousandths, and the last width.
 use borrow.Author.Rules.{rules}
-use mathlib.Core.Bool.{Bool, false, ◌&&◌, not}
-use mathlib.Core.Path.{◌≡◌, ap, ap₂, ◌∙◌, sym}
+use mathlib.Core.Bool.{Bool, ◌&&◌, not}
+use mathlib.Core.Path.{◌≡◌, ap, ap₂, ◌∙◌}
 use lib.Dec.{eqb}
-use lib.IntN.{ℤ, pos}
+use lib.IntN.{ℤ}
 use mir.Syntax.{w32}
 use mir.Val.{SFits}
 use Rattle.base_exact.proofs.Word.{to_z-of_z}
 use Rattle.spec_tucson.specs.Line.{same, thousandths}
 use Rattle.spec_tucson.specs.Series.{hundredths}
-use Rattle.tucson_notes.specs.Machine.{SumsUp, ahead_of}
+use Rattle.tucson_notes.specs.Machine.{ahead_of}
 use Rattle.tucson_notes.proofs.Remarks.{like-none, like_some}
 use Rattle.tucson_notes.proofs.is_like_closing.Statement.{statement}
 use Rattle.tucson_notes.proofs.is_like_closing.Tie as tie

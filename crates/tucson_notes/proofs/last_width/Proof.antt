@@ -1,5 +1,5 @@
 -- The field before the closing, or the last one.
-use mathlib.Core.Path.{◌≡◌, ap, ◌∙◌, sym}
+use mathlib.Core.Path.{ap, sym}
 use mathlib.Core.Bool.{Bool, cond}
 use mir.Syntax.{w32}
 use mir.Val.{SFits}

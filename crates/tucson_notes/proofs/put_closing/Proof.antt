@@ -4,10 +4,9 @@ use borrow.Author.Tests.{eq-eqb, ne_eqb}
 use native.Mathlib.Omega.{arith}
 use mathlib.Core.Bool.{Bool, true, false, cond}
 use mathlib.Core.List.{[], ◌∷◌}
-use mathlib.Core.Path.{◌≡◌, refl, sym, ◌∙◌, ap}
+use mathlib.Core.Path.{◌≡◌, sym, ap}
 use Prim.Native.Nat.{ℕ}
 use lib.Dec.{eqb}
-use Rattle.base_text.specs.Bytes.{Text}
 use Rattle.base_text.specs.Numeral.{digits_up_to, digits, decimal}
 use Rattle.base_print.proofs.Buffer.{puts_as}
 use Rattle.spec_tucson.specs.Columns.{columns}

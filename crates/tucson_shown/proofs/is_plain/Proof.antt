@@ -1,6 +1,6 @@
 -- Both arrays have the part, which is a strict line.
 use borrow.Author.Rules.{rules}
-use mathlib.Core.Path.{◌≡◌, sym, ◌∙◌, ap}
+use mathlib.Core.Path.{sym, ◌∙◌, ap}
 use native.Mathlib.Omega.{arith}
 use lib.Seq.{length-slice}
 use Rattle.base_exact.proofs.Decide.{clash}

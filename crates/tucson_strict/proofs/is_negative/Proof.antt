@@ -1,7 +1,6 @@
 -- Each test tells one field.
 use borrow.Author.Rules.{rules}
 use borrow.Author.Tests.{ltb-true}
-use mathlib.Core.Bool.{true, false}
 use native.Mathlib.Omega.{arith}
 use Rattle.base_exact.proofs.Decide.{clash}
 use Rattle.tucson_strict.proofs.is_negative.Statement.{statement}

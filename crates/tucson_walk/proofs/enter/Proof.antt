@@ -1,7 +1,7 @@
 -- A line that goes on with its series leaves it as it is; another one begins a series, which is looked through.
 use borrow.Author.Rules.{rules}
-use mathlib.Core.Bool.{Bool, cond}
-use mathlib.Core.Path.{◌≡◌, sym, ◌∙◌}
+use mathlib.Core.Bool.{cond}
+use mathlib.Core.Path.{◌≡◌}
 use native.Mathlib.Omega.{arith}
 use mir.Syntax.{w32}
 use mir.Val.{SFits}

@@ -1,7 +1,6 @@
 -- The one that is known, or this one.
-use borrow.Author.Rules.{rules}
 use mathlib.Core.Bool.{Bool, cond}
-use mathlib.Core.Path.{◌≡◌, sym, ap}
+use mathlib.Core.Path.{sym, ap}
 use mir.Syntax.{w32}
 use mir.Val.{SFits}
 use Rattle.base_exact.proofs.Word.{to_z-of_z}

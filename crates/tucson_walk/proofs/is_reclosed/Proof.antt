@@ -1,7 +1,7 @@
 -- All three.
 use borrow.Author.Rules.{rules}
 use mathlib.Core.Bool.{Bool, ◌&&◌, not}
-use mathlib.Core.Path.{◌≡◌, sym, ◌∙◌, ap, ap₂}
+use mathlib.Core.Path.{◌≡◌, ◌∙◌, ap}
 use lib.Dec.{eqb}
 use mir.Syntax.{w32}
 use mir.Val.{SFits}

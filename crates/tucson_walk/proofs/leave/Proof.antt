@@ -1,13 +1,11 @@
 -- One line less.
 use borrow.Author.Rules.{rules}
-use mathlib.Core.Path.{◌≡◌, sym, ◌∙◌, ap}
-use Prim.Native.Nat.{ℕ, suc, ◌-◌}
+use mathlib.Core.Path.{◌≡◌, ap}
+use Prim.Native.Nat.{ℕ, ◌-◌}
 use native.Mathlib.Omega.{arith}
-use lib.IntN.{ℤ}
 use mir.Syntax.{w32}
 use mir.Val.{SFits}
 use Rattle.base_exact.proofs.Word.{to_z-of_z}
-use Rattle.tucson_walk.specs.declared.Series.{Series}
 use Rattle.tucson_walk.proofs.leave.Statement.{statement}
 use Rattle.tucson_walk.proofs.leave.Tie as tie
 

@@ -1,7 +1,7 @@
 -- One mark after another.
 use borrow.Author.Rules.{rules}
 use mathlib.Core.Bool.{Bool, ◌&&◌}
-use mathlib.Core.Path.{◌≡◌, sym, ◌∙◌, ap, ap₂}
+use mathlib.Core.Path.{◌≡◌, ◌∙◌, ap}
 use Rattle.tucson_notes.specs.declared.Marks.{Marks}
 use Rattle.tucson_walk.proofs.LineMarks.{unended_is}
 use Rattle.tucson_walk.proofs.marks_of.Statement.{statement}

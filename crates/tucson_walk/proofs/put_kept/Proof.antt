@@ -1,15 +1,11 @@
 -- The line, its number, and its notes.
 use borrow.Author.Rules.{rules}
-use mathlib.Core.List.{List}
-use mathlib.Core.Path.{◌≡◌, sym, ◌∙◌, ap}
-use native.Mathlib.Omega.{arith}
-use lib.IntN.{ℤ}
 use mir.Syntax.{w32}
 use mir.Val.{SFits}
 use Rattle.base_exact.proofs.Word.{to_z-of_z}
-use Rattle.base_print.proofs.Buffer.{puts_then, puts_within, puts_as}
+use Rattle.base_print.proofs.Buffer.{puts_then, puts_as}
 use Rattle.spec_tucson.specs.CleanNotes.{remarks}
-use Rattle.tucson_notes.specs.Machine.{SumsUp, ahead_of, PutsRemarks}
+use Rattle.tucson_notes.specs.Machine.{ahead_of, PutsRemarks}
 use Rattle.tucson_walk.proofs.put_kept.Statement.{statement}
 use Rattle.tucson_walk.proofs.put_kept.Tie as tie
 

@@ -1,11 +1,10 @@
 -- The marks, and note 6 or 9 behind them.
 use borrow.Author.Rules.{rules}
-use mathlib.Core.Bool.{Bool, false}
+use mathlib.Core.Bool.{false}
 use mathlib.Core.List.{[], ◌∷◌}
-use mathlib.Core.Path.{◌≡◌, sym, ◌∙◌, ap, subst}
-use native.Mathlib.Omega.{arith}
+use mathlib.Core.Path.{sym, ◌∙◌, ap}
 use Rattle.tucson_notes.specs.declared.Marks.{Marks}
-use Rattle.tucson_notes.specs.Machine.{marked, PutsMarks}
+use Rattle.tucson_notes.specs.Machine.{marked}
 use Rattle.tucson_walk.proofs.LineMarks.{blank_notes, header-notes, marks_then}
 use Rattle.tucson_walk.proofs.put_other.Statement.{statement}
 use Rattle.tucson_walk.proofs.put_other.Tie as tie

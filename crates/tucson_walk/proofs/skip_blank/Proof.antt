@@ -1,10 +1,8 @@
 -- Each blank line is passed over.
-use borrow.Author.Rules.{rules}
-use mathlib.Core.Path.{◌≡◌, sym, ◌∙◌}
-use Prim.Native.Nat.{ℕ, ◌+◌, ◌-◌, ◌<◌, ◌≤◌}
+use mathlib.Core.Path.{sym, ◌∙◌}
+use Prim.Native.Nat.{◌+◌, ◌-◌, ◌<◌, ◌≤◌}
 use native.Mathlib.Omega.{arith}
 use lib.ListN.{length}
-use Rattle.base_text.specs.Bytes.{Text}
 use Rattle.tucson_lines.specs.Machine.{LineEnd}
 use Rattle.tucson_lines.proofs.Lines.{end_within}
 use Rattle.tucson_walk.specs.Skipping.{Passed}

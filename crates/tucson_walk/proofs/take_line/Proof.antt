@@ -1,25 +1,21 @@
 -- The series at the line, its marks, what is put for it, and the series behind it.
 use borrow.Author.Rules.{rules}
 use mathlib.Core.Bool.{Bool}
-use mathlib.Core.Path.{◌≡◌, refl, sym, ◌∙◌, ap, ap₂, subst}
-use Prim.Native.Nat.{ℕ, ◌+◌, ◌≤◌}
+use mathlib.Core.Path.{◌≡◌, sym, ◌∙◌, ap, ap₂, subst}
+use Prim.Native.Nat.{ℕ, ◌≤◌}
 use native.Mathlib.Omega.{arith}
 use lib.Dec.{eqb}
-use lib.IntN.{ℤ}
 use lib.ListN.{length, take}
-use lib.Seq.{slice, take_all, length-take-le}
+use lib.Seq.{take_all, length-take-le}
 use mir.Syntax.{w32}
 use mir.Val.{SFits}
 use Rattle.base_exact.proofs.Word.{to_z-of_z}
 use Rattle.base_text.specs.Bytes.{Text}
-use Rattle.spec_tucson.specs.Shown as lines-shown
-use Rattle.spec_tucson.specs.StrictLine.{is_strict, has_site, any_high, shown_fields}
+use Rattle.spec_tucson.specs.StrictLine.{is_strict, any_high}
 use Rattle.spec_tucson.specs.CleanSeries.{fields_of}
 use Rattle.tucson_lines.proofs.Lines.{end_within}
-use Rattle.tucson_notes.specs.declared.Marks.{Marks}
-use Rattle.tucson_notes.specs.declared.Fields.{Fields}
 use Rattle.tucson_notes.specs.Machine.{SumsUp}
-use Rattle.tucson_walk.specs.Walking.{reclosing, marks_of, TakeAsks}
+use Rattle.tucson_walk.specs.Walking.{reclosing, marks_of}
 use Rattle.tucson_walk.proofs.NextLines.{stands_long}
 use Rattle.tucson_walk.proofs.Taking.{puts_kept_as, took}
 use Rattle.tucson_walk.proofs.take_line.Statement.{statement}

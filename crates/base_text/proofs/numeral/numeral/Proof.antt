@@ -15,7 +15,7 @@ use Rattle.base_exact.proofs.Word.{to_z-of_z, to_z_pos, sfits_abs, abs_sub}
 use Rattle.base_text.specs.Numeral
 use Rattle.base_text.specs.Numeral.{is_natural}
 use Rattle.base_text.specs.Machine.{field}
-use Rattle.base_text.specs.declared.numeral.Field.TheVariants.{Numeral}
+use Rattle.std.specs.Prelude.{Some}
 use Rattle.base_text.proofs.Digits.{natural_small}
 use Rattle.base_text.proofs.Numerals.{numeral-empty, minus-bad, minus-zero, minus-numeral, plain-numeral, plain-bad}
 use Rattle.base_text.proofs.numeral.numeral.Statement.{statement}
@@ -87,7 +87,7 @@ returns-3 c =
     let v = d.digits_value-v.result in
     let fits : SFits w32 (pos 0 -ℤ pos v) = sfits_abs {w = w32} (omega (arith, small d, abs_sub (pos 0) (pos v))) in
     simp (to_z_pos w32 v (omega (arith, small d)), to_z-of_z)
-    (ap (λ (n : ℕ). Numeral (pos 0 -ℤ pos n)) d.digits_value-v.ensures
+    (ap (λ (n : ℕ). Some (pos 0 -ℤ pos n)) d.digits_value-v.ensures
     ∙ sym
     (ap field (minus-numeral (text s) (from s) (to s) (before s) (within s) d.before.before.before.if-text-from-eq45.true (natural d)
     (λ e. c.if-v-eq0.false (d.digits_value-v.ensures ∙ e)))))
@@ -106,7 +106,7 @@ returns-5 c =
     let s = start2 c in
     let v = c.digits_value.result in
     simp (to_z_pos w32 v (omega (arith, small2 c)))
-    (ap (λ (n : ℕ). Numeral (pos n)) c.digits_value.ensures
+    (ap (λ (n : ℕ). Some (pos n)) c.digits_value.ensures
     ∙ sym (ap field (plain-numeral (text s) (from s) (to s) (before s) (within s) c.before.before.before.if-text-from-eq45.false (natural2 c))))
 
 returns-6 : tie.Need-returns

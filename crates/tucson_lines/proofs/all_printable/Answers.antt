@@ -1,0 +1,25 @@
+-- The definition is the two tests at every byte, and so is the method's.
+use Rattle.std.proofs.Common.{◌≡◌, ◌&&◌, ℕ, Bool, leb, refl, ◌∙◌, rules}
+use Rattle.std.specs.List.{list_all}
+use Rattle.std.proofs.lemmas.Iterator.{YieldsList-from_slice}
+use Rattle.std.proofs.lemmas.Iterator.Search.{all_from_yields_List}
+use Rattle.std.proofs.lemmas.List.Recursion.{same_from_clauses}
+use borrow.Author.Tests.{tests}
+use Rattle.base_text.specs.Bytes.{Text}
+use Rattle.base_text.proofs.Slice.{slice_range_is}
+use Rattle.spec_tucson.specs.Columns.{blank}
+use Rattle.spec_tucson.specs.Line.{last_printable, all_printable}
+use Rattle.tucson_lines.proofs.all_printable.Goals as goal
+
+abbrev is_printable : ℕ → Bool
+is_printable c = leb blank c && leb c last_printable
+
+is_all : (t : Text) → list_all is_printable t ≡ all_printable t
+unfolding all_printable
+is_all t = same_from_clauses (list_all is_printable) all_printable (λ c b. is_printable c && b) refl (λ _ _. refl) (λ _ _. refl) t
+
+pub returns : goal.returns
+returns c =
+    let s = c.args in
+    let part = c.iter.ensures.rest ∙ slice_range_is s.from s.to s.text.now c.requires.ordered in
+    all_from_yields_List is_printable _ _ _ c.all.ensures.ran (YieldsList-from_slice _ part) (λ x b q k. search (rules, tests)) ∙ is_all _

@@ -1,0 +1,8 @@
+-- A blank leaves the number to the columns behind it.
+use Rattle.std.proofs.Common.{◌≡◌}
+use Rattle.std.proofs.Math.Seq.{slice}
+use Rattle.spec_tucson.specs.Columns.{in_columns}
+use Rattle.tucson_strict.proofs.is_numeral.Given as goal
+
+abbrev pub invariant-loop-i : goal.invariant-loop-i
+invariant-loop-i l = in_columns (slice l.from l.to l.text) ≡ in_columns (slice l.i l.to l.text)
