@@ -24,12 +24,18 @@ fn first_jump(js: &[i64; base_fraction::arrays::ROW_CELLS], rows: usize) -> Opti
     requires { rows ≤ row_cells }
     ensures { (qs : List ℚ) → js.now ≡ (fractions qs).num → result ≡ found (Search.first rows (Step.jumps_at qs)) }
 {
-    for i in 0..rows {
-        if js[i] != 0 {
-            return Some(i);
+    let mut i: usize = 0;
+    // A `loop` that yields the row by break, or none: a form that is asked for (docs/DECISIONS.md, Forms).
+    let at = loop {
+        if i == rows {
+            break None;
         }
-    }
-    None
+        if js[i] != 0 {
+            break Some(i);
+        }
+        i += 1;
+    };
+    at
 }
 
 // The last row below `rows` with a jump other than zero.
@@ -38,12 +44,18 @@ fn last_jump(js: &[i64; base_fraction::arrays::ROW_CELLS], rows: usize) -> Optio
     ensures value { (qs : List ℚ) → js.now ≡ (fractions qs).num → result ≡ found (Search.last rows (Step.jumps_at qs)) }
     ensures by_index { (i : ℕ) → result ≡ Some i → i < rows }
 {
-    for i in (0..rows).rev() {
-        if js[i] != 0 {
-            return Some(i);
+    let mut i = rows;
+    // A `loop` that yields the row by break, or none: a form that is asked for (docs/DECISIONS.md, Forms).
+    let at = loop {
+        if i == 0 {
+            break None;
         }
-    }
-    None
+        i -= 1;
+        if js[i] != 0 {
+            break Some(i);
+        }
+    };
+    at
 }
 
 // Whether a jump from row f up to row l is zero.
