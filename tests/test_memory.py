@@ -24,6 +24,13 @@ def test_no_call_gets_a_null_pointer(built: Built) -> None:
     ended([built.c("nulls", "tests/driver/empty.c", "tests/driver/nulls.c")])
 
 
+def test_needed_from_outside(built: Built) -> None:
+    """The archives need two functions of the C library, and nothing else from outside."""
+    for archive in (CURVES, INDICES):
+        needed = {line.split()[-1] for line in ended(["nm", "-u", archive]).splitlines() if line.startswith(" ")}
+        assert needed == {"memcpy", "memset"}, archive
+
+
 def test_stack(built: Built) -> None:
     """No call needs more stack than the headers say."""
     ended([built.c("stack", "tests/driver/stack.c", CURVES, INDICES, "-lpthread", "-Wl,-z,now")])

@@ -92,7 +92,9 @@ fn copy(text: &[u8], from: usize, to: usize, bytes: &mut [u8])
     requires { CopyAsks text.now from to bytes.old }
     ensures { take (to - from) bytes.new ≡ slice from to text.now }
 {
-    bytes[..to - from].copy_from_slice(&text[from..to]);
+    for i in from..to {
+        bytes[i - from] = text[i];
+    }
 }
 
 // The same, for an array of cells. So many bytes of the text take fewer instructions than the bytes of the part alone.
