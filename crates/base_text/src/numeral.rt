@@ -50,7 +50,9 @@ fn digits_value(text: &[u8], from: usize, to: usize) -> u32
     v
 }
 
-// The number that the part stands for, if it is a numeral: a minus may stand before the digits, but not before 0.
+// The number that the part stands for, if it is a numeral: a minus may stand before the digits, but not before 0. It stays a call of
+// its own: only so is what calls it small enough for the compiler to unroll the six columns of a Tucson field.
+#[inline(never)]
 pub fn numeral(text: &[u8], from: usize, to: usize) -> Option<i32>
     requires { Range text.now from to }
     ensures { result ≡ field (Numeral.numeral (slice from to text.now)) }
