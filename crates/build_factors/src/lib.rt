@@ -1,7 +1,7 @@
 // The factors of a step: 1 at the first row that the jumps span, 0 at the last, and w = S / jump at the rows between.
 #![tactic(auto)]
 
-ghost use Rattle.std.specs.Prelude.{◌≡◌, List, ℕ, pos, ◌<ℤ◌};
+ghost use Rattle.std.specs.Prelude.{◌≡◌, List, [], ℕ, pos, ◌<ℤ◌};
 ghost use Rattle.base_exact.specs.Rational.{ℚ, ◌+ᵠ◌};
 ghost use Rattle.base_fraction.specs.Machine.{value};
 ghost use Rattle.spec_spline.specs.Step;
@@ -41,6 +41,17 @@ pub struct RowFactors {
     pub of: Fractions,
 }
 
+// No rows and no factors, with which the factors of a step begin.
+pub fn no_factors() -> RowFactors
+    ensures { (result.f ≡ 0) × ((result.l ≡ 0) × (result.of ≡ fractions [])) }
+{
+    RowFactors {
+        f: 0,
+        l: 0,
+        of: arrays::no_fractions(),
+    }
+}
+
 // A factor w = S / jump with its partial sum S.
 #[derive(Clone, Copy)]
 pub struct NextFactor {
@@ -77,7 +88,7 @@ pub fn factors(js: Fractions, f: usize, l: usize) -> Result<RowFactors, StepRefu
     requires { Spanned js f l }
     ensures { (qs : List ℚ) (j : ℕ) → js ≡ fractions qs → Plans (plan_over j qs (record { f = f; l = l })) result }
 {
-    let mut ws = arrays::no_fractions();
+    let mut ws = no_factors().of;
     ws.num[0] = 1;
     let mut sum = arrays::fraction_at(&js.num, &js.den, f);
     for i in f + 1..l {

@@ -36,7 +36,9 @@ fn mix_row(
         let below = at + build_cells::ROW_CELLS;
         let x = build_cells::read(num, den, at);
         let y = build_cells::read(num, den, below);
-        let q = build_entry::new_entry(w, u, x, y)?;
+        let Some(q) = build_entry::new_entry(w, u, x, y) else {
+            return None;
+        };
         num[at] = q.num;
         den[at] = q.den;
     }

@@ -90,7 +90,7 @@ pub fn piece(
 {
     let mut early = [0; curve_places::COLUMN_LIMIT];
     let mut late = [0; curve_places::COLUMN_LIMIT];
-    curve_start::build_curves(
+    if let Err(refusal) = curve_start::build_curves(
         breaks,
         degrees,
         orders,
@@ -101,7 +101,9 @@ pub fn piece(
         den,
         &mut early,
         &mut late,
-    )?;
+    ) {
+        return Err(refusal);
+    }
     match wood {
         Wood::Earlywood => draw(breaks, degrees, orders, &early, segment),
         Wood::Latewood => draw(breaks, degrees, orders, &late, segment),

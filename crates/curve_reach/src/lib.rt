@@ -77,7 +77,7 @@ pub fn reach(
 {
     let mut early = [0; curve_places::COLUMN_LIMIT];
     let mut late = [0; curve_places::COLUMN_LIMIT];
-    curve_start::build_curves(
+    if let Err(refusal) = curve_start::build_curves(
         breaks,
         degrees,
         orders,
@@ -88,6 +88,8 @@ pub fn reach(
         den,
         &mut early,
         &mut late,
-    )?;
+    ) {
+        return Err(refusal);
+    }
     part_reach(wood, breaks, degrees, orders, &early, &late, width)
 }

@@ -46,6 +46,8 @@ pub fn build_curves(
             place: 2,
         });
     }
-    curve_limits::check(breaks, degrees, orders, coefs, positions)?;
+    if let Err(refusal) = curve_limits::check(breaks, degrees, orders, coefs, positions) {
+        return Err(refusal);
+    }
     curve_parts::build_parts(breaks, degrees, orders, coefs, num, den, early, late)
 }

@@ -57,7 +57,7 @@ loop-i-init c =
       rest = λ qs j e. record {
         done = [];
         collects = ap (λ n. collect n (λ d. factor j qs f (f + 1 + d))) (let z : f + 1 - f - 1 ≡ 0 = omega arith in z) ∙ collect-none _;
-        ws_is = one_fraction c.no_fractions-ws.result c.no_fractions-ws.ensures;
+        ws_is = one_fraction c.no_factors.result.of c.no_factors.ensures.1.1;
       };
     }
 

@@ -11,7 +11,7 @@ use lib.Seq.{get_or-set_same, get_or-set_other}
 use mir.Syntax.{w64}
 use mir.Val.{SFits}
 use mir.ValLaws.{to_z-of_z}
-use Rattle.std.specs.Prelude.{Option, Some}
+use Rattle.std.specs.Prelude.{Option, None, Some}
 use Rattle.base_exact.specs.Rational.{ℚ}
 use Rattle.base_fraction.specs.Machine.{fraction, value, FractionFits}
 use Rattle.base_fraction.specs.declared.Fraction.{Fraction}
@@ -113,23 +113,23 @@ new_entry-requires c =
           (fits-sized _ (h.fit _ _));
     }
 
-pub returns-in_err-q : goal.returns-in_err-q
-returns-in_err-q c t j v h e inside wide =
+pub returns-in_default : goal.returns-in_default
+returns-in_default c t j v h e inside wide =
     let l = c.loop-c in
     let a = c.args in
     let o = large_refused _ (sym (outcome l.invariant (omega arith) (omega arith) c.read-x.ensures c.read-y.ensures t j v h
-    (c.in_err-q.ensures j v e))) in
+    (c.in_default.ensures j v e))) in
     let stops = collect_stops (length (row t a.i)) l.c (entries a.w v t a.i j) (mixed a.w v t a.i) (omega arith)
     (λ d k. (l.invariant.made t j v h e d k).answers) o.refuses in
-    subst (λ (out : Outcome (List ℚ)). LeavesIf (with_answer (set t a.i) out) c.from_residual.result a.num.now a.den.now l.num l.den)
+    subst (λ (out : Outcome (List ℚ)). LeavesIf (with_answer (set t a.i) out) None a.num.now a.den.now l.num l.den)
     (sym stops)
-    (c.from_residual.ensures, written-kept (omega arith) l.invariant.num_written, written-kept (omega arith) l.invariant.den-written)
+    (refl, written-kept (omega arith) l.invariant.num_written, written-kept (omega arith) l.invariant.den-written)
 
 pub loop-c-preserved : goal.loop-c-preserved
 loop-c-preserved c =
     let l = c.loop-c in
     let a = c.args in
-    let q = c.in_ok-q.q in
+    let q = c.in-Some.q in
     let x : SFits w64 q.num = search rules in
     let y : SFits w64 q.den = search rules in
     let room : 72 * a.i + l.c < length l.num = let h = c.requires.holds.1 in omega arith in
@@ -139,7 +139,7 @@ loop-c-preserved c =
       den-written = written_more _ _ (omega arith) (omega arith) l.invariant.den-written;
       made = λ t j v h e.
           let o = fits_answered _ q (sym
-          (outcome l.invariant (omega arith) (omega arith) c.read-x.ensures c.read-y.ensures t j v h (c.in_ok-q.ensures j v e))) in
+          (outcome l.invariant (omega arith) (omega arith) c.read-x.ensures c.read-y.ensures t j v h (c.in-Some.ensures j v e))) in
           let k = new_entry-answers j _ v _ _ o.answers in
           turn l.invariant (omega arith) (omega arith) t j v q room room' (o.answers ∙ ap answer k.0) (o.lowest ∙ ap fraction k.0)
           (l.invariant.made t j v h e);

@@ -1,9 +1,7 @@
 -- The curves without positions, and the search with the ordinates of both parts.
-use Rattle.std.proofs.Common.{◌≡◌, ◌∙◌, rules, ℕ, ℤ, List, [], pos, length}
+use Rattle.std.proofs.Common.{◌≡◌, rules, ℕ, ℤ, List, [], pos, length}
 use lib.ListN.{replicate}
 use mir.ValLaws.{to_z-of_z}
-use Rattle.std.proofs.lemmas.Result.{err_from_is_err_and}
-use Rattle.base_outcome.proofs.Machine.{passed_on}
 use Rattle.spec_spline.specs.Space.{Space}
 use Rattle.spec_spline.specs.Reading.{Wood, earlywood, latewood, coefficient}
 use Rattle.build_space.specs.Machine.{space}
@@ -23,19 +21,18 @@ chosen_is : (s : Space) (coefs : List ℤ) {n : ℕ} {num den : List ℤ} {after
 chosen_is s coefs h earlywood = h.early_is
 chosen_is s coefs h latewood = h.late_is
 
-pub returns-in_err-build_curves : goal.returns-in_err-build_curves
-returns-in_err-build_curves c =
+pub returns-in-Err : goal.returns-in-Err
+returns-in-Err c =
     let a = c.args in
     let s : Space = space a.breaks.now a.degrees.now a.orders.now in
-    let l = c.in_err-build_curves.ensures in (
-      passed_on (err_from_is_err_and c.from_residual.result c.from_residual.ensures.1)
-          ∙ reach_refused s (wood_of a.wood) a.coefs.now a.width (length a.num.now) (length a.den.now) l.told,
+    let l = c.in-Err.ensures in (
+      reach_refused s (wood_of a.wood) a.coefs.now a.width (length a.num.now) (length a.den.now) l.told,
       (l.numerators_are, l.denominators_are),
     )
 
 pub part_reach-requires : goal.part_reach-requires
 part_reach-requires c =
-    let h = c.in_ok-build_curves.ensures.told in
+    let h = c.in_default.ensures.told in
     let m = c.build_curves.new in
     let after : Lent = lent m.num m.den m.early m.late in
     record {
@@ -48,7 +45,7 @@ pub returns : goal.returns
 returns c =
     let a = c.args in
     let s : Space = space a.breaks.now a.degrees.now a.orders.now in
-    let l = c.in_ok-build_curves.ensures in
+    let l = c.in_default.ensures in
     let f = c.ranges.width in (
       reach_searched s (wood_of a.wood) a.coefs.now a.width (length a.num.now) (length a.den.now) column_limit _ l.told.is
           (chosen_is s a.coefs.now l.told (wood_of a.wood)) (simp to_z-of_z at c.part_reach.ensures),

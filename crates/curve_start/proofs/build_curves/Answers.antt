@@ -1,12 +1,11 @@
 -- The tests in their order, then the parts of the beam.
-use Rattle.std.proofs.Common.{◌∙◌, sym, ap, subst, refl, arith, Err}
-use Rattle.std.proofs.lemmas.Result.{err_from_is_err_and}
+use Rattle.std.proofs.Common.{refl, arith}
 use Rattle.base_outcome.proofs.Machine.{passed_refuses}
 use Rattle.theorems_values.proofs.LegalCall.{curve_checks}
 use Rattle.build_space.specs.Machine.{space}
 use Rattle.build_space.proofs.Legal.{legal_column-count-high}
 use Rattle.curve_parts.specs.Parts.{Lent, TableRoom, lent}
-use Rattle.curve_start.specs.Machine.{Call, call, CurvesLeave}
+use Rattle.curve_start.specs.Machine.{Call, call}
 use Rattle.curve_start.proofs.Call.{checked_of, first_short, second_short, third_short, call_refused, lists_legal, coefficients_good}
 use Rattle.curve_start.proofs.Leaves.{leaves_unchanged, leaves_built}
 use Rattle.curve_start.proofs.build_curves.Goals as goal
@@ -33,26 +32,24 @@ returns-then-room-positions c =
     let room : TableRoom l = record { num_long = c.if-num-lt-TABLE_CELLS.false; den_long = c.if-den-lt-TABLE_CELLS.false } in
     leaves_unchanged q l (third_short q l room c.if-room-positions.true) refl
 
-pub returns-in_err-check : goal.returns-in_err-check
-returns-in_err-check c =
+pub returns-in-Err : goal.returns-in-Err
+returns-in-Err c =
     let a = c.args in
     let q : Call = call (space a.breaks.now a.degrees.now a.orders.now) a.coefs.now a.positions.now a.room in
     let l : Lent = lent a.num.now a.den.now a.early.now a.late.now in
     let room : TableRoom l = record { num_long = c.if-num-lt-TABLE_CELLS.false; den_long = c.if-den-lt-TABLE_CELLS.false } in
-    let p = err_from_is_err_and c.from_residual.result c.from_residual.ensures.1 in
-    let r = passed_refuses (checked_of q) c.in_err-check.ensures in
-    subst (λ e. CurvesLeave q e l l) (sym (p.1 ∙ ap Err p.2))
-    (leaves_unchanged q l (call_refused q l room c.if-room-positions.false r) (curve_checks q.lists _ _ r))
+    let r = passed_refuses (checked_of q) c.in-Err.ensures in
+    leaves_unchanged q l (call_refused q l room c.if-room-positions.false r) (curve_checks q.lists _ _ r)
 
 pub build_parts-requires : goal.build_parts-requires
 build_parts-requires c =
     let a = c.args in
     let q : Call = call (space a.breaks.now a.degrees.now a.orders.now) a.coefs.now a.positions.now a.room in
-    let legal = lists_legal q c.in_ok-check.ensures in
+    let legal = lists_legal q c.in_default.ensures in
     let few = legal_column-count-high _ _ _ legal in
     record {
       legal = legal;
-      coefficients = coefficients_good q c.in_ok-check.ensures;
+      coefficients = coefficients_good q c.in_default.ensures;
       room = record { num_long = c.if-num-lt-TABLE_CELLS.false; den_long = c.if-den-lt-TABLE_CELLS.false };
       early_long = omega (arith, few, c.requires.early_long);
       late_long = omega (arith, few, c.requires.late_long);
@@ -64,4 +61,4 @@ returns c =
     let q : Call = call (space a.breaks.now a.degrees.now a.orders.now) a.coefs.now a.positions.now a.room in
     let l : Lent = lent a.num.now a.den.now a.early.now a.late.now in
     let room : TableRoom l = record { num_long = c.if-num-lt-TABLE_CELLS.false; den_long = c.if-den-lt-TABLE_CELLS.false } in
-    leaves_built q l room c.if-room-positions.false c.in_ok-check.ensures c.build_parts.result c.build_parts.ensures
+    leaves_built q l room c.if-room-positions.false c.in_default.ensures c.build_parts.result c.build_parts.ensures
