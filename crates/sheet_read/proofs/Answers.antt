@@ -1,21 +1,24 @@
 -- What reading answers and leaves in the buffers: from its outcome to the contract's words, and from those back to the
 -- outcome, as a caller needs it.
-use mathlib.Core.Path.{◌≡◌, refl, sym, ◌∙◌, ap, ap₂}
-use mathlib.Core.List.{List, ◌++◌}
-use mathlib.Core.Option.{Option, some}
+use mathlib.Core.Path.{◌≡◌, refl, sym, ◌∙◌, ap, ap₂, subst}
+use mathlib.Core.List.{List, [], ◌∷◌, ◌++◌}
+use mathlib.Core.Option.{Option, some, none}
 use Prim.Native.Nat.{ℕ, ◌+◌, ◌*◌, ◌≤◌}
 use native.Mathlib.Omega.{arith}
+use lib.Dec.{ltb}
 use lib.IntN.{ℤ}
 use lib.ListN.{length, take, drop, length-append}
 use lib.Seq.{slice, take-append_seam}
 use Rattle.std.specs.Prelude.{Result, Ok, Err}
-use Rattle.base_outcome.specs.Outcome.{Outcome, answer, refusal}
+use Rattle.base_outcome.specs.Outcome.{Outcome, answer, refusal, refuse}
 use Rattle.spec_spline.specs.Reading.{Pair, side_by_side}
-use Rattle.base_outcome.proofs.Outcome.{answer_unique, answer_not_refusal}
+use Rattle.base_outcome.proofs.Outcome.{answer_unique, answer_not_refusal, then_inverts}
+use Rattle.spec_spline.proofs.Legal.{cond_refuse_inverts}
 use Rattle.spec_spline.proofs.Pairs.{side_by_side_length}
-use Rattle.base_text.specs.Bytes.{Text, Range}
+use Rattle.base_text.specs.Bytes.{Text, newline, Cut, cut, stripped, Range}
 use Rattle.base_text.specs.Numeral.{numeral}
-use Rattle.spec_sheet.specs.SheetReading.{pair, Lists, list_limit, read}
+use Rattle.spec_sheet.specs.SheetReading.{pair, Lists, Line, list_of, line_of, body_of, cut_line, line, read_line, breaks_key, degrees_key}
+use Rattle.spec_sheet.specs.SheetReading.{orders_key, coefs_key, at_key, ended, five_lines, list_limit, sheet_limit, read}
 use Rattle.sheet_lines.specs.Machine.{ListAt}
 use Rattle.sheet_read.specs.Machine.{numerals_of, numerals, reply, ListFits, ListPut, EndsAs}
 use Rattle.spec_sheet.specs.ReadSheet.{overwritten, Lengths, lengths, counted, after, read_end}
@@ -119,3 +122,53 @@ module _ (list : Lists → List ℤ) {o : Outcome Lists} {l : Lists} (e : o ≡ 
 
   pub part_is : take n buffer ≡ list l
   part_is = ap₂ take k whole ∙ take-append_seam (list l) (drop (length (list l)) before)
+
+-- ---- the lengths of the lists
+
+record Found {A : Type 0} (entry : Text → Option A) (r : Line A) : Type 0 where
+  body : Text
+  is : list_of entry body ≡ some r.list
+
+module _ {A : Type 0} (entry : Text → Option A) (key text : Text) (place : ℕ) (r : Line A) where
+  line-body : read_line place entry key text ≡ answer r → Found entry r
+  unfolding read_line line
+  line-body e = cuts (cut newline text) e
+    where
+      lists : (o : Option (List A)) (rest : Text) → elim (line_of o rest) [ none ↦ refuse 10 place | some l ↦ answer l ] ≡ answer r → o ≡ some r.list
+      lists none rest f = absurd (answer_not_refusal f refl)
+      lists (some xs) rest f = ap (λ l. some l.list) (answer_unique {a = record { list = xs; rest = rest }} refl f)
+
+      bodies : (o : Option Text) (rest : Text) → elim (line_of (body_of entry o) rest) [ none ↦ refuse 10 place | some l ↦ answer l ] ≡ answer r → Found entry r
+      bodies none rest f = absurd (answer_not_refusal f refl)
+      bodies (some t) rest f = record { body = t; is = lists (list_of entry t) rest f }
+
+      cuts : (o : Option Cut) → elim (cut_line entry key o) [ none ↦ refuse 10 place | some l ↦ answer l ] ≡ answer r → Found entry r
+      cuts none f = absurd (answer_not_refusal f refl)
+      cuts (some c) f = bodies (stripped key c.before) c.after f
+
+ended_positions : (rest : Text) (m l : Lists) → ended rest m ≡ answer l → m.positions ≡ l.positions
+ended_positions [] m l e = ap (λ q. q.positions) (answer_unique {a = m} {b = l} refl e)
+ended_positions (c ∷ cs) m l e = absurd (answer_not_refusal e refl)
+
+-- "at most 4,096 entries a list" (§ 13)
+pub positions_few : (text : Text) (l : Lists) → read text ≡ answer l → length l.positions ≤ list_limit
+unfolding read five_lines
+positions_few text l e =
+    let f = (cond_refuse_inverts (ltb sheet_limit (length text)) 10 0 (five_lines text) e).1 in
+    let b = then_inverts (read_line 1 numeral breaks_key text) _ f in
+    let d = then_inverts (read_line 2 numeral degrees_key b.middle.rest) _ b.after in
+    let o = then_inverts (read_line 3 numeral orders_key d.middle.rest) _ d.after in
+    let c = then_inverts (read_line 4 pair coefs_key o.middle.rest) _ o.after in
+    let p = then_inverts (read_line 5 numeral at_key c.middle.rest) _ c.after in
+    let t = line-body numeral at_key c.middle.rest 5 p.middle p.before in
+    let few : length p.middle.list ≤ list_limit = list_few numeral t.body p.middle.list t.is in
+    let m : Lists =
+    record {
+      breaks = b.middle.list;
+      degrees = d.middle.list;
+      orders = o.middle.list;
+      coefs = c.middle.list;
+      positions = p.middle.list;
+    } in
+    let same : p.middle.list ≡ l.positions = ended_positions p.middle.rest m l p.after in
+    subst (λ xs. length xs ≤ list_limit) same few

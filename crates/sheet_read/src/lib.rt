@@ -14,12 +14,12 @@ use sheet_lines::{Entry, Span};
 
 // Where the five lists stand.
 #[derive(Clone, Copy)]
-struct FiveSpans {
-    breaks: Span,
-    degrees: Span,
-    orders: Span,
-    coefs: Span,
-    positions: Span,
+pub struct FiveSpans {
+    pub breaks: Span,
+    pub degrees: Span,
+    pub orders: Span,
+    pub coefs: Span,
+    pub positions: Span,
 }
 
 // Looks through the whole text: where its lists stand, or the place of code 10.

@@ -14,10 +14,10 @@ use base_outcome::{Refusal, codes};
 
 // A line that is not blank, from the one index up to the other, and its number.
 #[derive(Clone, Copy)]
-struct Line {
-    from: usize,
-    end: usize,
-    number: usize,
+pub struct Line {
+    pub from: usize,
+    pub end: usize,
+    pub number: usize,
 }
 
 // The most lines of a header that can be named: `header_limit` of spec_tucson.
